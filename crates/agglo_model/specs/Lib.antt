@@ -1,0 +1,9 @@
+pub mod Count
+pub mod Axes
+pub mod Grid
+pub mod EdgeOrder
+pub mod Basins
+pub mod VolumeFile
+pub mod LabelFile
+pub mod Note
+pub mod Words

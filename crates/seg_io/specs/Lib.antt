@@ -1,0 +1,2 @@
+pub mod Desk
+pub use Rattle.agglo_model.specs.Count

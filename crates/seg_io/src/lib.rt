@@ -1,0 +1,10 @@
+//! The outside as a trait, `Desk`, a desk in memory, and the calls that read and write whole pieces.
+#![tactic(auto)]
+
+mod desk;
+mod pieces;
+mod port;
+
+pub use desk::{Desk, Failed};
+pub use pieces::fill;
+pub use port::Port;
