@@ -7,6 +7,12 @@ pub record IsName (word : List ℕ) : Type 0 where
   pub some : 0 < length word
   pub no_option : slice_index word 0 ≢ 45
 
+-- two names of files, which differ
+pub record AreNames (one other : List ℕ) : Type 0 where
+  pub one_name : IsName one
+  pub other_name : IsName other
+  pub differ : one ≢ other
+
 -- the number that decimal digits spell
 abbrev pub digits_number : List ℕ → ℕ
 digits_number word = fold (λ n digit. 10 * n + (digit - 48)) 0 word
@@ -30,8 +36,6 @@ pub record SpellsBasins (words : List (List ℕ)) (settings : BasinsSettings) : 
   pub number : List ℕ
   pub in_order : words ≡ codes "basins" ∷ codes "--volume" ∷ settings.volume
     ∷ codes "--labels" ∷ settings.labels ∷ codes "--low" ∷ number ∷ []
-  pub volume_name : IsName settings.volume
-  pub labels_name : IsName settings.labels
-  pub names_differ : settings.volume ≢ settings.labels
+  pub two_names : AreNames settings.volume settings.labels
   pub low_number : IsNumber 0 255 number
   pub low_value : digits_number number ≡ settings.low

@@ -1,0 +1,15 @@
+//! The program: words, the top call, and a desk over the real world.
+#![tactic(auto)]
+
+mod job;
+mod words;
+
+use std::process::ExitCode;
+
+fn main(rt: HostRuntime) -> ExitCode {
+    let words = Vec::new(rt.alloc());
+    match words::read_words(rt.alloc(), &words) {
+        Ok(_) => ExitCode::from(0),
+        Err(_) => ExitCode::from(1),
+    }
+}
