@@ -1,0 +1,2 @@
+pub mod States
+mod Filling
