@@ -1,2 +1,3 @@
 pub mod States
 mod Filling
+mod Writing
