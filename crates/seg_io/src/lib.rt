@@ -6,5 +6,5 @@ mod pieces;
 mod port;
 
 pub use desk::{Desk, Failed};
-pub use pieces::fill;
+pub use pieces::{PIECE_LENGTH, fill, put_all};
 pub use port::Port;

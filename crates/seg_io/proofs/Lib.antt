@@ -1,0 +1,3 @@
+pub mod States
+mod Filling
+mod Writing
