@@ -1,5 +1,5 @@
 -- The axes of a volume, its voxels, and the edges of its grid.
-use Rattle.std.specs.Prelude.{ℕ, ◌+◌, ◌*◌, ◌-◌, ◌/◌, ◌%◌, ◌^◌, ◌==◌, nat_lt, Bool, ◌&&◌, if◌then◌else◌, Option, Some, None}
+use Rattle.std.specs.Prelude.{ℕ, ◌+◌, ◌*◌, ◌-◌, ◌/◌, ◌%◌, ◌^◌, ◌<◌, ◌≤◌, ◌==◌, nat_lt, Bool, ◌&&◌, if◌then◌else◌, Option, Some, None}
 
 -- the lengths of a volume's three axes, in voxels
 pub record Axes : Type 0 where
@@ -56,3 +56,13 @@ axes_flaw a =
     else (if nat_lt 65535 a.nz then Some (AxisLarge 2)
     else (if nat_lt (2 ^ 28) (voxel_count a) then Some TooMany
     else None))))))
+
+-- the axes of a volume: each from 1 to 65,535 long, and at most 2^28 voxels
+pub record IsWithinLimits (a : Axes) : Type 0 where
+  pub some_x : 0 < a.nx
+  pub some_y : 0 < a.ny
+  pub some_z : 0 < a.nz
+  pub most_x : a.nx ≤ 65535
+  pub most_y : a.ny ≤ 65535
+  pub most_z : a.nz ≤ 65535
+  pub most_voxels : voxel_count a ≤ 2 ^ 28
