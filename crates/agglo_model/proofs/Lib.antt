@@ -1,1 +1,3 @@
 pub mod Edges
+pub mod BestEdge
+pub mod Ascent
