@@ -1,3 +1,4 @@
 pub mod Edges
 pub mod BestEdge
 pub mod Ascent
+pub mod BasinLabels
