@@ -1,1 +1,5 @@
 pub mod AxesLimits
+pub mod Edges
+pub mod BestEdge
+pub mod Ascent
+pub mod BasinLabels

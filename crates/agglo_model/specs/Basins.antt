@@ -9,20 +9,28 @@ use Rattle.agglo_model.specs.EdgeOrder.{IsBest, HasNoBest}
 abbrev pub label_of : List ℕ → ℕ → ℕ
 label_of labels v = slice_index labels v
 
--- the basin labels of a volume: three properties that one list alone has
-pub record AreBasins (g : Grid) (low : ℕ) (labels : List ℕ) : Type 0 where
-  pub one_each : length labels ≡ voxel_count g.axes
+-- label 0 is background: it stands exactly where no strong edge is
+abbrev pub BackgroundIsUnlabelled : Grid → ℕ → List ℕ → Type 0
+BackgroundIsUnlabelled g low labels =
+    (v : ℕ) → v < voxel_count g.axes → (label_of labels v ≡ 0) ↔ HasNoBest g low v
 
-  -- background, label 0, is where no strong edge is
-  pub background : (v : ℕ) → v < voxel_count g.axes → (label_of labels v ≡ 0) ↔ HasNoBest g low v
-
-  -- both ends of the best edge of a voxel have one label
-  pub along : (v e : ℕ) → IsBest g low v e
+-- both ends of the best edge of a voxel have one label
+abbrev pub LabelsAgreeAlong : Grid → ℕ → List ℕ → Type 0
+LabelsAgreeAlong g low labels = (v e : ℕ) → IsBest g low v e
     → label_of labels (lower_end g.axes e) ≡ label_of labels (higher_end e)
 
-  -- where one edge is the best of both its ends, the lower one names the basin by its number plus 1
-  pub named : (e : ℕ) → IsBest g low (lower_end g.axes e) e → IsBest g low (higher_end e) e
+-- where one edge is the best of both its ends, the lower one names the basin by its number plus 1
+abbrev pub RootsNameBasins : Grid → ℕ → List ℕ → Type 0
+RootsNameBasins g low labels =
+    (e : ℕ) → IsBest g low (lower_end g.axes e) e → IsBest g low (higher_end e) e
     → label_of labels (lower_end g.axes e) ≡ lower_end g.axes e + 1
+
+-- the basin labels of a volume: three properties that one list alone has, of this length
+pub record AreBasins (g : Grid) (low : ℕ) (labels : List ℕ) : Type 0 where
+  pub one_each : length labels ≡ voxel_count g.axes
+  pub background : BackgroundIsUnlabelled g low labels
+  pub along : LabelsAgreeAlong g low labels
+  pub named : RootsNameBasins g low labels
 
 -- whether some voxel has this label
 abbrev pub occurs : List ℕ → ℕ → Bool
