@@ -3,7 +3,13 @@ pub mod Axes
 pub mod Grid
 pub mod EdgeOrder
 pub mod Basins
+pub mod PairOrder
+pub mod Contacts
+pub mod Greedy
 pub mod VolumeFile
 pub mod LabelFile
+pub mod MergeTree
 pub mod Note
+pub mod Report
 pub mod Words
+pub mod GreedyExamples

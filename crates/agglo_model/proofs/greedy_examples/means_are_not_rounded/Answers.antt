@@ -1,0 +1,16 @@
+use Rattle.std.proofs.Common.{inl, inr, refl, arith}
+use Rattle.agglo_model.specs.Contacts.{total}
+use Rattle.agglo_model.proofs.FirstPairs.{IsFirstPair-by_test}
+use Rattle.agglo_model.proofs.greedy_examples.means_are_not_rounded.Goals as goal
+
+pub returns-clause-run : goal.returns-clause-run
+unfolding total
+returns-clause-run c = (
+  record { first = IsFirstPair-by_test _ _ 1 5 refl; contact_is = refl; reaches = omega arith },
+  inr (1, 3, IsFirstPair-by_test _ _ 1 3 refl, λ reaches. omega (arith, reaches)),
+)
+
+pub returns-clause-not_rounded : goal.returns-clause-not_rounded
+unfolding total
+returns-clause-not_rounded c =
+    λ pair. let before = pair.first 1 5 (omega arith) (omega arith) (inl (omega arith)) in omega (arith, before)
