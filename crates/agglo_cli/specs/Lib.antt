@@ -1,1 +1,2 @@
+pub mod FileDesk
 pub mod Texts

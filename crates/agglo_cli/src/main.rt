@@ -1,6 +1,7 @@
 //! The program: words, the top call, and a desk over the real world.
 #![tactic(auto)]
 
+mod file_desk;
 mod job;
 mod words;
 
@@ -8,7 +9,9 @@ use std::process::ExitCode;
 
 fn main(rt: HostRuntime) -> ExitCode {
     let words = Vec::new(rt.alloc());
-    match words::read_words(rt.alloc(), &words) {
+    let alloc = rt.alloc();
+    let _desk = file_desk::FileDesk::new(rt, alloc);
+    match words::read_words(alloc, &words) {
         Ok(_) => ExitCode::from(0),
         Err(_) => ExitCode::from(1),
     }
