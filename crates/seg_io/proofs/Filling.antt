@@ -1,5 +1,5 @@
 -- A buffer that is being filled, piece by piece.
-use Rattle.std.proofs.Common.{◌≡◌, ℕ, ◌+◌, ◌-◌, ◌<◌, ◌≤◌, List, [], ◌++◌, length, take, drop, min, Option, Some, None, IfSome, refl, sym, ap, ◌∙◌, subst, arith, length-append, length-take, length-drop}
+use Rattle.std.proofs.Common.{◌≡◌, ℕ, ◌+◌, ◌-◌, ◌≤◌, List, [], ◌++◌, length, take, drop, min, Option, Some, None, IfSome, refl, sym, ap, ◌∙◌, subst, arith, length-append, length-take, length-drop}
 use Rattle.std.specs.Option.{option_map}
 use Rattle.std.proofs.Math.Seq.{take-add, take-append-add}
 use Rattle.std.proofs.lemmas.List.{take-append-le, length-take-le}
@@ -37,8 +37,8 @@ front_more None n k into part post r s h t = tt
 front_more (Some bytes) n k into part post r s h t =
     let long : length (take n into) ≡ n = length-take-le n into r in
     let joined : take (n + k) (take n into ++ (part ++ post)) ≡ take n into ++ take k (part ++ post) =
-      subst (λ (m : ℕ). take (m + k) (take n into ++ (part ++ post)) ≡ take n into ++ take k (part ++ post)) long
-      (take-append-add (take n into) (part ++ post) k) in
+    subst (λ (m : ℕ). take (m + k) (take n into ++ (part ++ post)) ≡ take n into ++ take k (part ++ post)) long
+    (take-append-add (take n into) (part ++ post) k) in
     let piece : take k (part ++ post) ≡ take k part = take-append-le k part post s in
     let whole : take (n + k) bytes ≡ take n bytes ++ take k (drop n bytes) = take-add n k bytes in cc
 
@@ -53,8 +53,8 @@ filled_more n k into part old now new h r e =
       room = omega (arith, length-append (take n into) (part ++ post_of n (length into - n) into), length-append part (post_of n (length into - n) into), length-take-le n into h.room, h.room, r.room, length-take (length into - n) (drop n into), length-drop n into);
       there = there_more old.input n k h.there (subst (λ (o : Option (List ℕ)). IfSome o (λ bytes. k ≤ length bytes)) same r.there);
       front = front_more old.input n k into part (post_of n (length into - n) into) h.room
-        (omega (arith, h.room, r.room, length-take (length into - n) (drop n into), length-drop n into)) h.front
-        (subst (λ (o : Option (List ℕ)). IfSome o (λ bytes. take k part ≡ take k bytes)) same r.front);
+          (omega (arith, h.room, r.room, length-take (length into - n) (drop n into), length-drop n into)) h.front
+          (subst (λ (o : Option (List ℕ)). IfSome o (λ bytes. take k part ≡ take k bytes)) same r.front);
       after = r.after ∙ (ap (taken k) h.after ∙ taken-taken n k old);
     }
 
@@ -88,12 +88,12 @@ filled_to_end n k buffer into part old now new none e h r p =
     let same : now.input ≡ option_map (drop n) old.input = ap (λ (s : DeskState). s.input) h.after in
     let z : n + k ≡ n = omega arith in
     let more : HasFilled n (put_mid n (length into - n) into part) old new =
-      subst (λ (m : ℕ). HasFilled m (put_mid n (length into - n) into part) old new) z (filled_more n k into part old now new h r p) in
+    subst (λ (m : ℕ). HasFilled m (put_mid n (length into - n) into part) old new) z (filled_more n k into part old now new h r p) in
     record {
       room = omega (arith, h.room);
       front = more.front;
       all = all_ended old.input n k (length buffer) none (omega (arith, h.room)) h.there
-        (subst (λ (o : Option (List ℕ)). IfSome o (λ bytes. k ≡ 0 → bytes ≡ [])) same r.none_left);
+          (subst (λ (o : Option (List ℕ)). IfSome o (λ bytes. k ≡ 0 → bytes ≡ [])) same r.none_left);
       after = more.after;
     }
 

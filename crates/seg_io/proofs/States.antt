@@ -197,7 +197,7 @@ FailsAfterWriting-later port a b old now new e f =
     let joined : take (length a + f.written) (a ++ b) ≡ a ++ take f.written b = take-append-add a b f.written in
     let same : faults_at port now ≡ faults_at port old = ap (faults_at port) e ∙ faults_at-appended port port a old in
     let here : appended port (take f.written b) now ≡ appended port (take (length a + f.written) (a ++ b)) old =
-      ap (appended port (take f.written b)) e ∙ (appended-appended port a (take f.written b) old ∙ ap (λ (c : List ℕ). appended port c old) (sym joined)) in
+    ap (appended port (take f.written b)) e ∙ (appended-appended port a (take f.written b) old ∙ ap (λ (c : List ℕ). appended port c old) (sym joined)) in
     record {
       written = length a + f.written;
       most = omega (arith, length-append a b, f.most);

@@ -4,7 +4,7 @@ use Rattle.std.proofs.Math.Seq.{take-add}
 use Rattle.std.proofs.lemmas.List.{take_all, take-take, take-append-drop}
 use Rattle.seg_io.specs.declared.port.Port.{Port}
 use Rattle.seg_io.specs.Desk.{DeskState, IsOpen, appended, Writes, FailsToWrite, FailsAfterWriting, faults_at, with_faults}
-use Rattle.seg_io.proofs.States.{appended-none, appended-appended, IsOpen-appended, FailsAfterWriting-later, FailsAfterWriting-sooner}
+use Rattle.seg_io.proofs.States.{appended-none, appended-appended, IsOpen-appended, FailsAfterWriting-later}
 
 -- the first n bytes were written
 pub record HasWritten (n : ℕ) (port : Port) (bytes : List ℕ) (old now : DeskState) : Type 0 where
@@ -20,12 +20,12 @@ pub written_more : (n m k : ℕ) (port : Port) (bytes : List ℕ) (old now new :
 written_more n m k port bytes old now new h w =
     let short : k ≤ m = omega (arith, w.most, length-take m (drop n bytes)) in
     let same : take n bytes ++ take k (take m (drop n bytes)) ≡ take (n + k) bytes =
-      ap (λ (l : List ℕ). take n bytes ++ l) (take-take k m (drop n bytes) short) ∙ sym (take-add n k bytes) in
+    ap (λ (l : List ℕ). take n bytes ++ l) (take-take k m (drop n bytes) short) ∙ sym (take-add n k bytes) in
     record {
       most = omega (arith, w.most, h.most, length-take m (drop n bytes), length-drop n bytes);
       after = w.after ∙ (ap (appended port (take k (take m (drop n bytes)))) h.after
-        ∙ (appended-appended port (take n bytes) (take k (take m (drop n bytes))) old
-        ∙ ap (λ (l : List ℕ). appended port l old) same));
+          ∙ (appended-appended port (take n bytes) (take k (take m (drop n bytes))) old
+          ∙ ap (λ (l : List ℕ). appended port l old) same));
     }
 
 pub still_open : (n : ℕ) (port : Port) (bytes : List ℕ) (old now : DeskState) → HasWritten n port bytes old now

@@ -1,4 +1,4 @@
-use Rattle.std.proofs.Common.{◌≡◌, true, length, ap, ◌∙◌, arith, rules}
+use Rattle.std.proofs.Common.{ap, ◌∙◌}
 use Rattle.std.proofs.lemmas.Result.{err_from_is_err_and}
 use Rattle.seg_io.specs.Desk.{DeskState}
 use Rattle.seg_io.proofs.Filling.{nothing_filled, filled_more, filled_whole, filled_to_end, fails_after}
