@@ -1,1 +1,2 @@
 pub mod AxesLimits
+pub mod Places

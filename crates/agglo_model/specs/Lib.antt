@@ -7,3 +7,5 @@ pub mod VolumeFile
 pub mod LabelFile
 pub mod Note
 pub mod Words
+pub mod Cell
+pub mod LabelMap
