@@ -6,3 +6,4 @@ pub mod BasinLabels
 pub mod Totals
 pub mod ContactEdges
 pub mod FirstPairs
+pub mod Places

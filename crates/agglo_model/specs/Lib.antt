@@ -13,3 +13,5 @@ pub mod Note
 pub mod Report
 pub mod Words
 pub mod GreedyExamples
+pub mod Cell
+pub mod LabelMap

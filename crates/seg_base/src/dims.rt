@@ -1,5 +1,5 @@
-ghost use Rattle.std.specs.Prelude.{◌≡◌, ◌*◌, Some, None, MatchResult};
-ghost use Rattle.agglo_model.specs.Axes.{Axes, IsWithinLimits, axes_flaw, voxel_count, edge_count};
+ghost use Rattle.std.specs.Prelude.{◌≡◌, ◌<◌, Some, None, MatchOption, MatchResult, false};
+ghost use Rattle.agglo_model.specs.Axes.{Axes, IsWithinLimits, IsPlace, IsEdgeBetween, axes_flaw, voxel_count, edge_count, voxel_at, place_of, coordinate, stride, is_edge};
 ghost use Rattle.seg_base.specs.Flaw.{flaw_of};
 
 use std::marker::Model;
@@ -106,5 +106,70 @@ impl Dims {
         ensures limits { IsWithinLimits self.now }
     {
         3 * self.voxels()
+    }
+
+    /// The number of the voxel at this place.
+    pub fn voxel(&self, x: u32, y: u32, z: u32) -> u32
+        requires { IsPlace self.now x y z }
+        ensures value { result ≡ voxel_at self.now x y z }
+        ensures voxel { result < voxel_count self.now }
+        ensures limits { IsWithinLimits self.now }
+    {
+        x + self.nx * (y + self.ny * z)
+    }
+
+    /// The place of voxel `v`: its coordinates on the x, y and z axis.
+    #[tactic(auto, using(agglo_model::proofs::Places::row_layer))]
+    pub fn place(&self, v: u32) -> [u32; 3]
+        requires { v < voxel_count self.now }
+        ensures value { result ≡ place_of self.now v }
+        ensures place { IsPlace self.now (coordinate self.now v 0) (coordinate self.now v 1) (coordinate self.now v 2) }
+        ensures limits { IsWithinLimits self.now }
+    {
+        let row = v / self.nx;
+        [v % self.nx, row % self.ny, row / self.ny]
+    }
+
+    /// The lower and the higher voxel of edge number `e`, where there is such an edge.
+    #[tactic(auto, using(agglo_model::proofs::Places::edge_between))]
+    pub fn edge_ends(&self, e: u32) -> Option<(u32, u32)>
+        ensures ends { MatchOption result
+            (is_edge self.now e ≡ false)
+            (λ ends. IsEdgeBetween self.now e ends.0 ends.1) }
+        ensures limits { IsWithinLimits self.now }
+    {
+        if e >= self.body_len() {
+            return None;
+        }
+        let higher = e / 3;
+        let axis = e % 3;
+        if self.coordinate(higher, axis) == 0 {
+            return None;
+        }
+        Some((higher - self.stride(axis), higher))
+    }
+
+    /// The coordinate of voxel `v` on an axis.
+    fn coordinate(&self, v: u32, axis: u32) -> u32
+        ensures value { result ≡ coordinate self.now v axis }
+        ensures limits { IsWithinLimits self.now }
+    {
+        match axis {
+            0 => v % self.nx,
+            1 => v / self.nx % self.ny,
+            _ => v / (self.nx * self.ny),
+        }
+    }
+
+    /// How far the numbers of two neighbours on an axis lie apart.
+    fn stride(&self, axis: u32) -> u32
+        ensures value { result ≡ stride self.now axis }
+        ensures limits { IsWithinLimits self.now }
+    {
+        match axis {
+            0 => 1,
+            1 => self.nx,
+            _ => self.nx * self.ny,
+        }
     }
 }

@@ -4,6 +4,12 @@
 //! and the merge trees stand on it.
 #![tactic(auto)]
 
+mod cell;
 mod dims;
+mod labels;
+#[cfg(test)]
+mod tests;
 
+pub use cell::Cell;
 pub use dims::{DimFault, Dims};
+pub use labels::Labels;
