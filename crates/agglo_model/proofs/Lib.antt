@@ -2,3 +2,4 @@ pub mod Edges
 pub mod BestEdge
 pub mod Ascent
 pub mod BasinLabels
+pub mod Names
