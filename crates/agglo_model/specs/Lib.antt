@@ -7,3 +7,4 @@ pub mod VolumeFile
 pub mod LabelFile
 pub mod Note
 pub mod Words
+pub mod Laws

@@ -1,6 +1,8 @@
 //! The definitions that every contract of this repository cites, and the laws over them.
 #![tactic(auto)]
 
+pub mod laws;
+
 use std::alloc::{AllocError, AllocFailed};
 
 /// Want of memory: the one refusal that no contract ties to a cause.
