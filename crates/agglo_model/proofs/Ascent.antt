@@ -126,7 +126,7 @@ steps_suffice g e lt = under (sum g.bytes) (affinity g e) (edge_count g.axes) e 
 abbrev pub Within : Grid → ℕ → ℕ → ℕ → Type 0
 Within g low k v = (e : ℕ) → IsBest g low v e → step_height g e < k
 
-within_next : (g : Grid) (low k v w e f : ℕ) → Within g low (suc k) v → IsBest g low v e
+pub within_next : (g : Grid) (low k v w e f : ℕ) → Within g low (suc k) v → IsBest g low v e
     → AreEnds g.axes e v w → IsBest g low w f → f ≢ e → Within g low k w
 within_next g low k v w e f within b ends c ne h d =
     let is : f ≡ h = best_unique g low w f h c d in
@@ -135,7 +135,7 @@ within_next g low k v w e f within b ends c ne h d =
     let was = within e b in
     subst (λ z. step_height g z < k) is (omega arith)
 
-no_step : (g : Grid) (low v : ℕ) → Within g low 0 v → HasNoBest g low v
+pub no_step : (g : Grid) (low v : ℕ) → Within g low 0 v → HasNoBest g low v
 no_step g low v p e b = let h = p e b in absurd (omega arith)
 
 pub climb_settles : (g : Grid) (low k j v : ℕ) → Within g low k v → Within g low j v
@@ -155,7 +155,7 @@ climb_settles g low (suc k) (suc j) v p q = elim (ascent_of g low v) [
 unfoldable pub basin_name : Grid → ℕ → ℕ → ℕ
 basin_name g low v = climb g low (enough_steps g) v
 
-within_all : (g : Grid) (low v : ℕ) → Within g low (enough_steps g) v
+pub within_all : (g : Grid) (low v : ℕ) → Within g low (enough_steps g) v
 within_all g low v e b = steps_suffice g e (edge_is g.axes e b.strong.edge).numbered
 
 within_more : (g : Grid) (low v : ℕ) → Within g low (suc (enough_steps g)) v

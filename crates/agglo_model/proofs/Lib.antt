@@ -7,3 +7,4 @@ pub mod Totals
 pub mod ContactEdges
 pub mod FirstPairs
 pub mod Places
+pub mod Names

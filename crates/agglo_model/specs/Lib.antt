@@ -15,3 +15,4 @@ pub mod Words
 pub mod GreedyExamples
 pub mod Cell
 pub mod LabelMap
+pub mod Laws
