@@ -1,0 +1,2 @@
+pub use Rattle.agglo_model.specs.LabelFile
+pub use Rattle.agglo_model.specs.LabelMap
