@@ -2,11 +2,11 @@
 #![tactic(auto)]
 
 mod desk;
-mod gathered;
+mod piecer;
 mod pieces;
 mod port;
 
 pub use desk::{Desk, Failed};
-pub use gathered::Piecer;
+pub use piecer::Piecer;
 pub use pieces::{PIECE_LENGTH, fill, put_all};
 pub use port::Port;
