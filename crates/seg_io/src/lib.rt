@@ -1,7 +1,9 @@
 //! The outside as a trait, `Desk`, a desk in memory, and the calls that read and write whole pieces.
 #![tactic(auto)]
 
+mod call_count;
 mod desk;
+mod output;
 mod piecer;
 mod pieces;
 mod port;
