@@ -1,0 +1,87 @@
+-- What a desk in memory means: all that its calls go by, and the state of a desk that it is.
+use Rattle.std.specs.Prelude.{◌≡◌, ℕ, ◌+◌, ◌-◌, ◌^◌, ◌==◌, ◌≤◌, ◌<◌, ◌⊎◌, true, Bool, false, if◌then◌else◌, MatchOption, List, [], ◌∷◌, ◌++◌, take, drop, length, min, Option, Some, None}
+use Rattle.std.specs.Option.{unwrap_or}
+use Rattle.std.specs.List.{list_any}
+use Rattle.seg_io.specs.declared.port.Port.{Port}
+use Rattle.seg_io.specs.declared.port.Port.TheVariants.{Labels, Tree, Volume, Note, Trouble}
+use Rattle.seg_io.specs.Desk.{DeskState, File, Opened}
+
+-- a count that goes up by one, and stands still at its last value
+abbrev pub one_more : ℕ → ℕ
+one_more n = min (n + 1) (2 ^ 64 - 1)
+
+-- The calls of one kind: how many were made, and of each that is to fail, how many come before it.
+pub record CallsMade : Type 0 where
+  pub made : ℕ
+  pub failing : List ℕ
+
+abbrev pub no_calls : CallsMade
+no_calls = record { made = 0; failing = [] }
+
+-- whether the next call was told to fail
+abbrev pub is_due : CallsMade → Bool
+is_due calls = list_any (λ before. before == calls.made) calls.failing
+
+abbrev pub counted : CallsMade → CallsMade
+counted calls = record calls { made = one_more calls.made }
+
+-- the n-th call is to fail, from 1; there is none before the first
+abbrev pub told : ℕ → CallsMade → CallsMade
+told n calls = if n == 0 then calls else record calls { failing = calls.failing ++ (n - 1) ∷ [] }
+
+-- what was written on a port, the room for it, and the writes that were made on it
+pub record OutputState : Type 0 where
+  pub bytes : List ℕ
+  pub room : ℕ
+  pub calls : CallsMade
+
+abbrev pub new_output : ℕ → OutputState
+new_output room = record { bytes = []; room = room; calls = no_calls }
+
+pub record OutputsState : Type 0 where
+  pub labels : OutputState
+  pub tree : OutputState
+  pub volume : OutputState
+  pub note : OutputState
+  pub trouble : OutputState
+
+abbrev pub new_outputs : ℕ → OutputsState
+new_outputs room = record {
+  labels = new_output room;
+  tree = new_output room;
+  volume = new_output room;
+  note = new_output room;
+  trouble = new_output room;
+}
+
+abbrev pub output_at : Port → OutputsState → OutputState
+output_at Labels s = s.labels
+output_at Tree s = s.tree
+output_at Volume s = s.volume
+output_at Note s = s.note
+output_at Trouble s = s.trouble
+
+abbrev pub with_output : Port → OutputState → OutputsState → OutputsState
+with_output Labels output s = record s { labels = output }
+with_output Tree output s = record s { tree = output }
+with_output Volume output s = record s { volume = output }
+with_output Note output s = record s { note = output }
+with_output Trouble output s = record s { trouble = output }
+
+-- a write on a port fails exactly where it was told to, or no room is left
+abbrev pub IsRefused : OutputState → Type 0
+IsRefused output = (is_due output.calls ≡ true) ⊎ (output.room ≤ length output.bytes)
+
+-- how many of these bytes a write takes, of which a call takes no more than `most`
+abbrev pub write_length : ℕ → List ℕ → OutputState → ℕ
+write_length most bytes output = min (min (length bytes) most) (output.room - length output.bytes)
+
+-- The bytes are written as far as they go; a write that is refused leaves them as they were.
+pub record WritesOutput (k most : ℕ) (bytes : List ℕ) (old new : OutputState) : Type 0 where
+  pub taken : k ≡ write_length most bytes old
+  pub refused : ¬ (IsRefused old)
+  pub after : new ≡ record old { bytes = old.bytes ++ take k bytes; calls = counted old.calls }
+
+pub record RefusesOutput (old new : OutputState) : Type 0 where
+  pub refused : IsRefused old
+  pub after : new ≡ record old { calls = counted old.calls }
