@@ -3,3 +3,4 @@ pub mod BestEdge
 pub mod Ascent
 pub mod BasinLabels
 pub mod Names
+pub mod Worked

@@ -8,3 +8,4 @@ pub mod LabelFile
 pub mod Note
 pub mod Words
 pub mod Laws
+pub mod Examples

@@ -29,7 +29,7 @@ pub record BasinsSettings : Type 0 where
 pub record SpellsBasins (words : List (List ℕ)) (settings : BasinsSettings) : Type 0 where
   pub number : List ℕ
   pub in_order : words ≡ codes "basins" ∷ codes "--volume" ∷ settings.volume
-    ∷ codes "--labels" ∷ settings.labels ∷ codes "--low" ∷ number ∷ []
+      ∷ codes "--labels" ∷ settings.labels ∷ codes "--low" ∷ number ∷ []
   pub volume_name : IsName settings.volume
   pub labels_name : IsName settings.labels
   pub names_differ : settings.volume ≢ settings.labels

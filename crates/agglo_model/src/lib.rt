@@ -1,6 +1,7 @@
 //! The definitions that every contract of this repository cites, and the laws over them.
 #![tactic(auto)]
 
+pub mod examples;
 pub mod laws;
 
 use std::alloc::{AllocError, AllocFailed};
