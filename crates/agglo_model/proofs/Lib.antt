@@ -4,3 +4,5 @@ pub mod Ascent
 pub mod BasinLabels
 pub mod Names
 pub mod Worked
+pub mod AxesLimits
+pub mod Places

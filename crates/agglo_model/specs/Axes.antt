@@ -1,5 +1,5 @@
 -- The axes of a volume, its voxels, and the edges of its grid.
-use Rattle.std.specs.Prelude.{ℕ, ◌+◌, ◌*◌, ◌-◌, ◌/◌, ◌%◌, ◌^◌, ◌==◌, nat_lt, Bool, ◌&&◌, if◌then◌else◌, Option, Some, None}
+use Rattle.std.specs.Prelude.{◌≡◌, ℕ, ◌+◌, ◌*◌, ◌-◌, ◌/◌, ◌%◌, ◌^◌, ◌<◌, ◌≤◌, ◌==◌, nat_lt, Bool, true, ◌&&◌, if◌then◌else◌, List, [], ◌∷◌, Option, Some, None}
 
 -- the lengths of a volume's three axes, in voxels
 pub record Axes : Type 0 where
@@ -39,6 +39,24 @@ higher_end e = e / 3
 abbrev pub lower_end : Axes → ℕ → ℕ
 lower_end a e = e / 3 - stride a (e % 3)
 
+-- a place of the grid
+pub record IsPlace (a : Axes) (x y z : ℕ) : Type 0 where
+  pub in_x : x < a.nx
+  pub in_y : y < a.ny
+  pub in_z : z < a.nz
+
+-- the place of voxel v, as the list of its three coordinates
+abbrev pub place_of : Axes → ℕ → List ℕ
+place_of a v = coordinate a v 0 ∷ coordinate a v 1 ∷ coordinate a v 2 ∷ []
+
+-- an edge of the grid with the voxels that it joins
+pub record IsEdgeBetween (a : Axes) (e lower higher : ℕ) : Type 0 where
+  pub edge : is_edge a e ≡ true
+  pub lower_is : lower ≡ lower_end a e
+  pub higher_is : higher ≡ higher_end e
+  pub ascending : lower < higher
+  pub voxel : higher < voxel_count a
+
 -- what is wrong with three numbers as the axes of a volume
 pub data AxesFlaw : Type 0 where
   AxisZero : ℕ → AxesFlaw
@@ -56,3 +74,13 @@ axes_flaw a =
     else (if nat_lt 65535 a.nz then Some (AxisLarge 2)
     else (if nat_lt (2 ^ 28) (voxel_count a) then Some TooMany
     else None))))))
+
+-- the axes of a volume: each from 1 to 65,535 long, and at most 2^28 voxels
+pub record IsWithinLimits (a : Axes) : Type 0 where
+  pub some_x : 0 < a.nx
+  pub some_y : 0 < a.ny
+  pub some_z : 0 < a.nz
+  pub most_x : a.nx ≤ 65535
+  pub most_y : a.ny ≤ 65535
+  pub most_z : a.nz ≤ 65535
+  pub most_voxels : voxel_count a ≤ 2 ^ 28

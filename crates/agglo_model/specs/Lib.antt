@@ -9,3 +9,5 @@ pub mod Note
 pub mod Words
 pub mod Laws
 pub mod Examples
+pub mod Cell
+pub mod LabelMap

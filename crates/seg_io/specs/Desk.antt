@@ -1,5 +1,5 @@
 -- What a desk means: its state, and what each call does to that state.
-use Rattle.std.specs.Prelude.{◌≡◌, ◌≢◌, ℕ, ◌+◌, ◌<◌, ◌≤◌, Bool, true, false, List, [], ◌∷◌, ◌++◌, length, take, drop, min, find, ◌⊎◌, Option, Some, None, IsSome, IfSome, MatchOption}
+use Rattle.std.specs.Prelude.{◌≡◌, ℕ, ◌≤◌, Bool, true, false, List, [], ◌∷◌, ◌++◌, length, take, drop, min, find, ◌⊎◌, Option, IsSome, IfSome, MatchOption}
 use Rattle.std.specs.Option.{option_map}
 use Rattle.std.specs.Str.{bytes_eq}
 use Rattle.agglo_model.specs.Count.{Rose}
@@ -22,22 +22,18 @@ pub record DeskState : Type 0 where
   pub input_faults : ℕ
   pub output_faults : ℕ
   pub trouble_faults : ℕ
-
   -- the files by name, and how often a name was asked for that no file has
   pub files : Option (List File)
   pub misses : ℕ
-
   -- whether an input is open, and what is left of it
   pub has_input : Bool
   pub input : Option (List ℕ)
-
   -- what was written on each port since it was opened
   pub labels : Option (List ℕ)
   pub tree : Option (List ℕ)
   pub volume : Option (List ℕ)
   pub note : Option (List ℕ)
   pub trouble : Option (List ℕ)
-
   -- the ports that were opened so far
   pub opened : List Opened
 

@@ -1,2 +1,3 @@
 pub mod Desk
+pub mod Piecing
 pub use Rattle.agglo_model.specs.Count

@@ -2,9 +2,11 @@
 #![tactic(auto)]
 
 mod desk;
+mod gathered;
 mod pieces;
 mod port;
 
 pub use desk::{Desk, Failed};
-pub use pieces::fill;
+pub use gathered::Piecer;
+pub use pieces::{PIECE_LENGTH, fill, put_all};
 pub use port::Port;

@@ -1,0 +1,15 @@
+//! The grid of a volume: its axes, its voxels and edges, boxes of voxels, and lists of labels.
+//!
+//! It stands on `agglo_model`, whose records its types mean. The file formats, the cutting in chunks
+//! and the merge trees stand on it.
+#![tactic(auto)]
+
+mod cell;
+mod dims;
+mod labels;
+#[cfg(test)]
+mod tests;
+
+pub use cell::Cell;
+pub use dims::{DimFault, Dims};
+pub use labels::Labels;

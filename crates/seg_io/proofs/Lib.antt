@@ -1,0 +1,4 @@
+pub mod States
+pub mod Piecing
+mod Filling
+mod Writing

@@ -1,0 +1,9 @@
+//! Volumes of affinities, and the files that hold them.
+//!
+//! It stands on `seg_base` for the grid and on `seg_io` for the desk. All that looks at affinities
+//! stands on it.
+#![tactic(auto)]
+
+mod volume;
+
+pub use volume::{Head, Volume};
