@@ -1,6 +1,6 @@
 -- The ascent from a voxel along best edges, and the name of the basin to which it leads.
-use Rattle.std.proofs.Common.{◌≡◌, ◌≢◌, ℕ, zero, suc, ◌+◌, ◌*◌, ◌-◌, ◌/◌, ◌%◌, ◌<◌, ◌≤◌, ◌⊎◌, ◌↔◌, ◌==◌, if◌then◌else◌, Bool, true, false, cond, ◌&&◌, ◌||◌, IsTrue, nat_lt, nat_le, eqb, List, [], ◌∷◌, sum, Option, Some, None, MatchOption, refl, sym, ◌∙◌, ap, subst, inl, inr, arith, eqb-true, ne_eqb, eq-eqb, mul-le-mul_right}
-use Rattle.std.proofs.lemmas.Bool.{cases_eq, cases_lt}
+use Rattle.std.proofs.Common.{◌≡◌, ◌≢◌, ℕ, zero, suc, ◌+◌, ◌*◌, ◌-◌, ◌<◌, ◌≤◌, ◌⊎◌, ◌↔◌, ◌==◌, if◌then◌else◌, Bool, true, false, IsTrue, sum, Option, Some, None, refl, sym, ◌∙◌, ap, subst, inl, inr, arith, ne_eqb, eq-eqb, mul-le-mul_right}
+use Rattle.std.proofs.lemmas.Bool.{cases_eq}
 use Rattle.std.proofs.lemmas.Bool.Decides.{nat_tests}
 use Rattle.agglo_model.specs.Axes.{Axes, voxel_count, edge_count, is_edge, lower_end, higher_end}
 use Rattle.agglo_model.specs.Grid.{Grid, affinity}
@@ -48,7 +48,7 @@ pub data Ascent (g : Grid) (low v : ℕ) : Type 0 where
   Stays : HasNoBest g low v → Ascent g low v
   Roots : (e w : ℕ) → IsBest g low v e → AreEnds g.axes e v w → IsBest g low w e → Ascent g low v
   Climbs : (e w f : ℕ) → IsBest g low v e → AreEnds g.axes e v w → IsBest g low w f → f ≢ e
-    → Ascent g low v
+      → Ascent g low v
 
 pub ascent_of : (g : Grid) (low v : ℕ) → Ascent g low v
 ascent_of g low v = first (has_best g low v)
@@ -58,13 +58,15 @@ ascent_of g low v = first (has_best g low v)
         (far_end_ends g.axes e v b.strong.meets b.strong.edge) (subst (λ z. IsBest g low (far_end g.axes e v) z) same c)
     second e f b c (inr ne) = Climbs e (far_end g.axes e v) f b
         (far_end_ends g.axes e v b.strong.meets b.strong.edge) c ne
+
     first : ((e : ℕ) → ¬ (IsStrongAt g low v e)) ⊎ ((e : ℕ) × IsBest g low v e) → Ascent g low v
     first (inl weak) = Stays (no_strong_no_best g low v weak)
-    first (inr (e , b)) =
+    first (inr (e, b)) =
         let s = strong_across g low e v (far_end g.axes e v) (far_end_ends g.axes e v b.strong.meets b.strong.edge) b.strong in
         elim (has_best g low (far_end g.axes e v)) [
-            inl weak ↦ absurd (weak e s)
-          | inr c ↦ second e c.0 b c.1 (cases_eq c.0 e) ]
+          | inl weak ↦ absurd (weak e s)
+          | inr c ↦ second e c.0 b c.1 (cases_eq c.0 e)
+        ]
 
 -- the best edge of w is e
 abbrev pub is_best : Option ℕ → ℕ → Bool
@@ -96,7 +98,7 @@ unfolding climb
 at_edge g low k v w e f b ends c =
     ap (λ o. one_step g low v o (climb g low k)) (best_of_some g low v e b)
     ∙ ap (λ u. end_or (is_best (best_of g low u) e) (lower_end g.axes e + 1) (climb g low k) u)
-        (far_end_is g.axes e v w b.strong.edge ends)
+    (far_end_is g.axes e v w b.strong.edge ends)
     ∙ ap (λ o. end_or (is_best o e) (lower_end g.axes e + 1) (climb g low k) w) (best_of_some g low w f c)
 
 pub climb_root : (g : Grid) (low k v w e : ℕ) → IsBest g low v e → AreEnds g.axes e v w → IsBest g low w e
@@ -131,7 +133,7 @@ pub within_next : (g : Grid) (low k v w e f : ℕ) → Within g low (suc k) v �
 within_next g low k v w e f within b ends c ne h d =
     let is : f ≡ h = best_unique g low w f h c d in
     let falls = height_falls (sum g.bytes) g e f (affinity-le-sum g f) (edge_is g.axes f c.strong.edge).numbered
-        (next_before g low v w e f b ends c ne) in
+    (next_before g low v w e f b ends c ne) in
     let was = within e b in
     subst (λ z. step_height g z < k) is (omega arith)
 
@@ -145,11 +147,12 @@ climb_settles g low zero j v p q =
 climb_settles g low (suc k) zero v p q =
     climb_none g low (suc k) v (no_step g low v q) ∙ sym (climb_none g low 0 v (no_step g low v q))
 climb_settles g low (suc k) (suc j) v p q = elim (ascent_of g low v) [
-    Stays h ↦ climb_none g low (suc k) v h ∙ sym (climb_none g low (suc j) v h)
+  | Stays h ↦ climb_none g low (suc k) v h ∙ sym (climb_none g low (suc j) v h)
   | Roots e w b ends c ↦ climb_root g low k v w e b ends c ∙ sym (climb_root g low j v w e b ends c)
   | Climbs e w f b ends c ne ↦ climb_on g low k v w e f b ends c ne
       ∙ climb_settles g low k j w (within_next g low k v w e f p b ends c ne) (within_next g low j v w e f q b ends c ne)
-      ∙ sym (climb_on g low j v w e f b ends c ne) ]
+      ∙ sym (climb_on g low j v w e f b ends c ne)
+]
 
 -- the name of the basin that a voxel belongs to, or 0
 unfoldable pub basin_name : Grid → ℕ → ℕ → ℕ
@@ -205,12 +208,14 @@ pub record IsRoot (g : Grid) (low e : ℕ) : Type 0 where
 
 pub root_is : (g : Grid) (low e v w : ℕ) → AreEnds g.axes e v w → IsBest g low v e → IsBest g low w e
     → IsRoot g low e
-root_is g low e v w (inl (l , h)) b c = record {
+root_is g low e v w (inl (l, h)) b c = record {
   lower = subst (λ z. IsBest g low z e) (sym l) b;
-  higher = subst (λ z. IsBest g low z e) (sym h) c }
-root_is g low e v w (inr (l , h)) b c = record {
+  higher = subst (λ z. IsBest g low z e) (sym h) c;
+}
+root_is g low e v w (inr (l, h)) b c = record {
   lower = subst (λ z. IsBest g low z e) (sym l) c;
-  higher = subst (λ z. IsBest g low z e) (sym h) b }
+  higher = subst (λ z. IsBest g low z e) (sym h) b;
+}
 
 -- a property of the names that an ascent can end in
 climb_ends : (g : Grid) (low : ℕ) (P : ℕ → Type 0)
@@ -218,11 +223,12 @@ climb_ends : (g : Grid) (low : ℕ) (P : ℕ → Type 0)
     → (k v e : ℕ) → Within g low k v → IsBest g low v e → P (climb g low k v)
 climb_ends g low P here zero v e within b = absurd (no_step g low v within e b)
 climb_ends g low P here (suc k) v e within b = elim (ascent_of g low v) [
-    Stays h ↦ absurd (h e b)
+  | Stays h ↦ absurd (h e b)
   | Roots r w c ends d ↦
       subst P (sym (climb_root g low k v w r c ends d)) (here r (root_is g low r v w ends c d))
   | Climbs r w f c ends d ne ↦ subst P (sym (climb_on g low k v w r f c ends d ne))
-      (climb_ends g low P here k w f (within_next g low k v w r f within c ends d ne) d) ]
+      (climb_ends g low P here k w f (within_next g low k v w r f within c ends d ne) d)
+]
 
 pub name_ends : (g : Grid) (low : ℕ) (P : ℕ → Type 0)
     → ((e : ℕ) → IsRoot g low e → P (lower_end g.axes e + 1))
@@ -236,13 +242,14 @@ basin_name_some g low v e b = name_ends g low (λ x. 0 < x) (λ r root. omega ar
 
 pub basin_name_zero : (g : Grid) (low v : ℕ) → (basin_name g low v ≡ 0) ↔ HasNoBest g low v
 basin_name_zero g low v =
-    ((λ is e b. let h = basin_name_some g low v e b in omega arith) , basin_name_none g low v)
+    ((λ is e b. let h = basin_name_some g low v e b in omega arith), basin_name_none g low v)
 
 -- a name is the number of a voxel, plus 1
 pub basin_name-le : (g : Grid) (low v : ℕ) → basin_name g low v ≤ voxel_count g.axes
 basin_name-le g low v = elim (has_best g low v) [
-    inl weak ↦ rw (basin_name_none g low v (no_strong_no_best g low v weak)) (omega arith)
-  | inr best ↦ name_ends g low (λ x. x ≤ voxel_count g.axes) below v best.0 best.1 ]
+  | inl weak ↦ rw (basin_name_none g low v (no_strong_no_best g low v weak)) (omega arith)
+  | inr best ↦ name_ends g low (λ x. x ≤ voxel_count g.axes) below v best.0 best.1
+]
   where
     below : (e : ℕ) → IsRoot g low e → lower_end g.axes e + 1 ≤ voxel_count g.axes
     below e root =
@@ -254,7 +261,7 @@ basin_name-le g low v = elim (has_best g low v) [
 pub name_at_root : (g : Grid) (low e : ℕ) → IsRoot g low e
     → basin_name g low (lower_end g.axes e) ≡ lower_end g.axes e + 1
 name_at_root g low e root =
-    basin_name_root g low (lower_end g.axes e) (higher_end e) e root.lower (inl (refl , refl)) root.higher
+    basin_name_root g low (lower_end g.axes e) (higher_end e) e root.lower (inl (refl, refl)) root.higher
 
 pub basin_name_named : (g : Grid) (low v e : ℕ) → IsBest g low v e
     → basin_name g low (basin_name g low v - 1) ≡ basin_name g low v

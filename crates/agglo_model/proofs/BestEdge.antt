@@ -1,13 +1,13 @@
 -- The order of edges, and the best edge of a voxel: there is at most one, and it is found among six.
-use Rattle.std.proofs.Common.{◌≡◌, ◌≢◌, ℕ, zero, suc, ◌+◌, ◌*◌, ◌-◌, ◌/◌, ◌%◌, ◌<◌, ◌≤◌, ◌⊎◌, ◌==◌, if◌then◌else◌, Bool, true, false, cond, ◌&&◌, ◌||◌, IsTrue, nat_lt, nat_le, eqb, ltb, leb, List, [], ◌∷◌, get_or, sum, Option, Some, None, MatchOption, refl, sym, ◌∙◌, ap, subst, inl, inr, arith, mul-le-mul_right, length, lit<}
+use Rattle.std.proofs.Common.{◌≡◌, ◌≢◌, ℕ, ◌+◌, ◌*◌, ◌-◌, ◌%◌, ◌<◌, ◌≤◌, ◌⊎◌, ◌==◌, if◌then◌else◌, Bool, true, false, ◌&&◌, ◌||◌, IsTrue, nat_lt, nat_le, List, [], ◌∷◌, sum, Option, Some, None, MatchOption, refl, sym, ◌∙◌, ap, subst, inl, inr, arith, mul-le-mul_right, length, lit<}
 use Rattle.std.proofs.lemmas.Bool.{cases_eq, cases_lt}
-use Rattle.std.proofs.lemmas.Bool.Decides.{nat_tests, eqb_tells}
+use Rattle.std.proofs.lemmas.Bool.Decides.{nat_tests}
 use Rattle.std.proofs.lemmas.List.{get_or_past}
 use Rattle.std.proofs.lemmas.List.Sums.{get_or-le-sum_by}
-use Rattle.agglo_model.specs.Axes.{Axes, voxel_count, edge_count, coordinate, stride, is_edge, lower_end, higher_end}
+use Rattle.agglo_model.specs.Axes.{Axes, edge_count, is_edge, lower_end, higher_end}
 use Rattle.agglo_model.specs.Grid.{Grid, affinity}
-use Rattle.agglo_model.specs.EdgeOrder.{EdgeBefore, Meets, IsStrongAt, IsBest, HasNoBest}
-use Rattle.agglo_model.proofs.Edges.{edge_is, edge_back, edge_on, meets_either, edge_back_meets, edge_on_meets, higher_end_below, lower_below_higher, each_axis}
+use Rattle.agglo_model.specs.EdgeOrder.{EdgeBefore, IsStrongAt, IsBest, HasNoBest}
+use Rattle.agglo_model.proofs.Edges.{edge_back, edge_on, meets_either, edge_back_meets, edge_on_meets, each_axis}
 
 -- the order of edges is strict and total
 pub before_one_way : (g : Grid) (e f : ℕ) → EdgeBefore g e f → EdgeBefore g f e → ⊥
@@ -38,7 +38,7 @@ pub height_falls : (top : ℕ) (g : Grid) (e f : ℕ) → affinity g f ≤ top
     → f < edge_count g.axes → EdgeBefore g f e → height top g f < height top g e
 height_falls top g e f most lt (inl up) =
     row_before (top - affinity g f) (top - affinity g e) (edge_count g.axes) e f (omega arith) lt
-height_falls top g e f most lt (inr (same , less)) =
+height_falls top g e f most lt (inr (same, less)) =
     rw same (omega arith)
 
 -- no affinity is above the sum of all bytes
@@ -108,11 +108,14 @@ first_answers g low e es weak true is = record {
   stands = inl refl;
   strong = is;
   first = λ f m t ne. elim m [
-      inl same ↦ absurd (ne same)
-    | inr m ↦ clash (is_strong g low f) t (weak f m) ] }
+    | inl same ↦ absurd (ne same)
+    | inr m ↦ clash (is_strong g low f) t (weak f m)
+  ];
+}
 first_answers g low e es weak false is = λ f m. elim m [
-    inl same ↦ subst (λ z. is_strong g low z ≡ false) (sym same) is
-  | inr m ↦ weak f m ]
+  | inl same ↦ subst (λ z. is_strong g low z ≡ false) (sym same) is
+  | inr m ↦ weak f m
+]
 
 takes : (g : Grid) (low e b : ℕ) (es : List ℕ) → IsBestIn g low es b
     → is_strong g low e ≡ true → before g e b ≡ true → IsBestIn g low (e ∷ es) e
@@ -120,11 +123,14 @@ takes g low e b es h is up = record {
   stands = inl refl;
   strong = is;
   first = λ f m t ne. elim m [
-      inl same ↦ absurd (ne same)
-    | inr m ↦ after f m t (cases_eq f b) ] }
+    | inl same ↦ absurd (ne same)
+    | inr m ↦ after f m t (cases_eq f b)
+  ];
+}
   where
     over : EdgeBefore g e b
     over = before_tells g e b up
+
     after : (f : ℕ) → IsIn f es → is_strong g low f ≡ true → (f ≡ b) ⊎ (f ≢ b) → EdgeBefore g e f
     after f m t (inl same) = subst (λ z. EdgeBefore g e z) (sym same) over
     after f m t (inr ne) = before_trans g e b f over (h.first f m t ne)
@@ -135,9 +141,11 @@ keeps g low e b es h under = record {
   stands = inr h.stands;
   strong = h.strong;
   first = λ f m t ne. elim m [
-      inl same ↦ subst (λ z. EdgeBefore g b z) (sym same) (under
+    | inl same ↦ subst (λ z. EdgeBefore g b z) (sym same) (under
         (subst (λ z. is_strong g low z ≡ true) same t) (λ is. ne (same ∙ is)))
-    | inr m ↦ h.first f m t ne ] }
+    | inr m ↦ h.first f m t ne
+  ];
+}
 
 next_answers : (g : Grid) (low e b : ℕ) (es : List ℕ) → IsBestIn g low es b
     → (s t : Bool) → is_strong g low e ≡ s → before g e b ≡ t
@@ -173,8 +181,9 @@ on_in a v c lt = each_axis (λ d. IsIn (edge_on a v d) (edges_at a v)) c lt
 pub meets_one_of_six : (a : Axes) (v e : ℕ) → IsTrue (is_edge a e)
     → (lower_end a e ≡ v) ⊎ (higher_end e ≡ v) → IsIn e (edges_at a v)
 meets_one_of_six a v e t m = elim (meets_either a v e t m) [
-    inl is ↦ subst (λ z. IsIn z (edges_at a v)) (sym is) (back_in a v (e % 3) three)
-  | inr is ↦ subst (λ z. IsIn z (edges_at a v)) (sym is) (on_in a v (e % 3) three) ]
+  | inl is ↦ subst (λ z. IsIn z (edges_at a v)) (sym is) (back_in a v (e % 3) three)
+  | inr is ↦ subst (λ z. IsIn z (edges_at a v)) (sym is) (on_in a v (e % 3) three)
+]
   where
     three : e % 3 < 3
     three = omega arith
@@ -215,7 +224,8 @@ best_at : (g : Grid) (low v b : ℕ) → IsBestIn g low (edges_at g.axes v) b �
 best_at g low v b h = record {
   strong = strong_at g low v b h.stands h.strong;
   first = λ f s ne. h.first f (meets_one_of_six g.axes v f s.edge s.meets)
-      (strong_test (is_edge g.axes f) low (affinity g f) s.edge s.strong) ne }
+      (strong_test (is_edge g.axes f) low (affinity g f) s.edge s.strong) ne;
+}
 
 -- no strong edge meets the voxel
 abbrev pub HasNoStrong : Grid → ℕ → ℕ → Type 0
@@ -244,7 +254,7 @@ has_best g low v = told (best_of g low v) (best_of_answers g low v)
     told : (o : Option ℕ) → MatchOption o (HasNoStrong g low v) (λ e. IsBest g low v e)
         → HasNoStrong g low v ⊎ ((e : ℕ) × IsBest g low v e)
     told None h = inl h
-    told (Some e) h = inr (e , h)
+    told (Some e) h = inr (e, h)
 
 pub best_of_strong : (g : Grid) (low v e : ℕ) → IsStrongAt g low v e → (b : ℕ) × IsBest g low v b
 best_of_strong g low v e s = elim (has_best g low v) [ inl weak ↦ absurd (weak e s) | inr best ↦ best ]

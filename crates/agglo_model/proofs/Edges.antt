@@ -1,10 +1,8 @@
 -- Edges of a grid and their two ends.
-use Rattle.std.proofs.Common.{◌≡◌, ◌≢◌, ℕ, ◌+◌, ◌*◌, ◌-◌, ◌/◌, ◌%◌, ◌<◌, ◌≤◌, ◌⊎◌, ◌==◌, if◌then◌else◌, Bool, true, false, cond, ◌&&◌, IsTrue, nat_lt, List, [], ◌∷◌, refl, sym, ◌∙◌, ap, subst, inl, inr, suc, zero, arith}
-use Rattle.std.proofs.Math.Nat.{mod-le, div-mul-le_self, div-le_self, mod-lt, div-lt_iff_lt-mul, mul-le-mul_right, zero-mul, mul-zero, mul-pos}
+use Rattle.std.proofs.Common.{◌≡◌, ℕ, ◌+◌, ◌*◌, ◌/◌, ◌%◌, ◌<◌, ◌≤◌, ◌⊎◌, ◌&&◌, IsTrue, nat_lt, ap, inl, inr, suc, zero, arith}
+use Rattle.std.proofs.Math.Nat.{mod-le, div-mul-le_self, mul-le-mul_right, mul-pos}
 use Rattle.std.proofs.lemmas.Bool.Decides.{nat_tests}
 use Rattle.agglo_model.specs.Axes.{Axes, voxel_count, edge_count, coordinate, stride, is_edge, lower_end, higher_end}
-use Rattle.agglo_model.specs.Grid.{Grid, affinity}
-use Rattle.agglo_model.specs.EdgeOrder.{Meets}
 
 -- what the test for an edge says
 pub record IsEdge (a : Axes) (e : ℕ) : Type 0 where

@@ -8,3 +8,4 @@ pub mod ContactEdges
 pub mod FirstPairs
 pub mod Places
 pub mod Names
+pub mod Worked

@@ -1,11 +1,10 @@
 -- How many names a list of basin labels has.
-use Rattle.std.proofs.Common.{◌≡◌, ◌≢◌, ℕ, zero, suc, ◌+◌, ◌*◌, ◌-◌, ◌<◌, ◌≤◌, ◌⊎◌, ◌==◌, ◌||◌, IsTrue, Bool, true, false, cond, List, [], ◌∷◌, ◌++◌, get_or, length, map, filter, fold, sum_by, count_by, max, refl, sym, ◌∙◌, ap, subst, inl, inr, arith, eq-eqb, eqb-true, suc-add, add-zero, ap₂, subst₂, ne_eqb, map-id}
+use Rattle.std.proofs.Common.{◌≡◌, ℕ, zero, suc, ◌+◌, ◌-◌, ◌<◌, ◌≤◌, ◌==◌, ◌||◌, Bool, true, false, cond, List, [], ◌∷◌, ◌++◌, get_or, length, fold, count_by, max, refl, sym, ◌∙◌, ap, subst, inl, inr, arith, eq-eqb, eqb-true, add-zero, ap₂, subst₂, ne_eqb, map-id}
 use Rattle.std.specs.List.{range_with_len, list_any}
 use Rattle.std.proofs.lemmas.Bool.{cases_lt}
-use Rattle.std.proofs.lemmas.Bool.Decides.{nat_tests}
 use Rattle.std.proofs.lemmas.List.{get_or_past}
 use Rattle.std.proofs.lemmas.List.Sums.{sum_by-cons, sum_by_push, length-filter}
-use Rattle.std.proofs.lemmas.List.FromFn.{map-range_with_len_more, length-range_with_len, get_or-range_with_len}
+use Rattle.std.proofs.lemmas.List.FromFn.{map-range_with_len_more}
 use Rattle.std.proofs.lemmas.List.Folds.{list_any_at}
 use Rattle.agglo_model.specs.Axes.{voxel_count}
 use Rattle.agglo_model.specs.Grid.{Grid}
@@ -24,6 +23,7 @@ count_alike p q a b (suc n) same =
     head : p a ≡ q b
     head = let h : p (a + 0) ≡ q (b + 0) = same 0 (omega arith) in
         subst₂ (λ x y. p x ≡ q y) (add-zero a) (add-zero b) h
+
     shift : (i : ℕ) → i < n → p (a + 1 + i) ≡ q (b + 1 + i)
     shift i lt = let h = same (i + 1) (omega arith) in
         let x : a + (i + 1) ≡ a + 1 + i = omega arith in
@@ -48,7 +48,7 @@ count_on p m (suc k) fails =
     let last : m + suc k ≡ m + k + 1 = omega arith in
     let here : p (m + k) ≡ false = fails (m + k) (omega arith) (omega arith) in
     let more : count_by p (range_with_len 0 (m + k + 1)) ≡ count_by p (range_with_len 0 (m + k)) + 0 =
-        subst (λ b. count_by p (range_with_len 0 (m + k + 1)) ≡ count_by p (range_with_len 0 (m + k)) + cond b 1 0) here (count_more p (m + k)) in
+    subst (λ b. count_by p (range_with_len 0 (m + k + 1)) ≡ count_by p (range_with_len 0 (m + k)) + cond b 1 0) here (count_more p (m + k)) in
     ap (λ n. count_by p (range_with_len 0 n)) last
     ∙ more ∙ add-zero (count_by p (range_with_len 0 (m + k)))
     ∙ count_on p m k (λ v le lt. fails v le (omega arith))
@@ -58,7 +58,7 @@ count_up_to : (p : ℕ → Bool) (m n : ℕ) → m ≤ n → ((v : ℕ) → m �
 count_up_to p m n le fails =
     let is : m + (n - m) ≡ n = omega arith in
     subst (λ z. count_by p (range_with_len 0 z) ≡ count_by p (range_with_len 0 m)) is
-        (count_on p m (n - m) (λ v at lt. fails v at (omega arith)))
+    (count_on p m (n - m) (λ v at lt. fails v at (omega arith)))
 
 fold-max-le : (m a : ℕ) (xs : List ℕ) → a ≤ m → ((i : ℕ) → get_or xs i 0 ≤ m) → fold max a xs ≤ m
 fold-max-le m a [] le each = le
@@ -82,10 +82,10 @@ list_any_index p (x ∷ xs) t = pick (p x) refl (λ later. list_any_index p xs l
     pick : (b : Bool) → p x ≡ b
         → (list_any p xs ≡ true → (i : ℕ) × (i < length xs) × (p (get_or xs i 0) ≡ true))
         → (i : ℕ) × (i < length (x ∷ xs)) × (p (get_or (x ∷ xs) i 0) ≡ true)
-    pick true is later = (0 , omega arith , is)
+    pick true is later = (0, omega arith, is)
     pick false is later =
         let h = later (subst (λ b. (b || list_any p xs) ≡ true) is t) in
-        (suc h.0 , omega (arith, h.1) , h.2)
+        (suc h.0, omega (arith, h.1), h.2)
 
 -- the label of voxel v names v
 abbrev pub names_itself : List ℕ → ℕ → Bool
@@ -94,8 +94,9 @@ names_itself labels v = label_of labels v == v + 1
 -- an entry that is not 0 stands within the list
 index_of : (xs : List ℕ) (i : ℕ) → 0 < get_or xs i 0 → i < length xs
 index_of xs i pos = elim (cases_lt i (length xs)) [
-    inl lt ↦ lt
-  | inr le ↦ (let h = get_or_past xs i 0 le in absurd (omega arith)) ]
+  | inl lt ↦ lt
+  | inr le ↦ (let h = get_or_past xs i 0 le in absurd (omega arith))
+]
 
 occurs_at : (g : Grid) (low : ℕ) (labels : List ℕ) → AreBasins g low labels → (v : ℕ)
     → occurs labels (v + 1) ≡ names_itself labels v
@@ -104,10 +105,12 @@ occurs_at g low labels are v = pick (occurs labels (v + 1)) (names_itself labels
     up : occurs labels (v + 1) ≡ true → names_itself labels v ≡ true
     up t = let h = list_any_index (λ y. y == v + 1) labels t in
         eq-eqb (label_of labels v) (v + 1)
-            (label_names_voxel g low labels are h.0 v (eqb-true (label_of labels h.0) (v + 1) h.2))
+        (label_names_voxel g low labels are h.0 v (eqb-true (label_of labels h.0) (v + 1) h.2))
+
     down : names_itself labels v ≡ true → occurs labels (v + 1) ≡ true
     down t = let is : label_of labels v ≡ v + 1 = eqb-true (label_of labels v) (v + 1) t in
         list_any_at (λ y. y == v + 1) labels v 0 (index_of labels v (omega arith)) t
+
     pick : (b c : Bool) → occurs labels (v + 1) ≡ b → names_itself labels v ≡ c → occurs labels (v + 1) ≡ names_itself labels v
     pick true c p q = p ∙ sym (up p)
     pick false true p q = let h = down q in absurd (cc)
@@ -126,7 +129,9 @@ names_counted g low labels are =
         let one : i + 1 ≡ 1 + i = omega arith in
         let none : i ≡ 0 + i = omega arith in
         subst₂ (λ x y. occurs labels x ≡ names_itself labels y) one none (occurs_at g low labels are i)
+
     most : fold max 0 labels ≤ voxel_count g.axes
     most = fold-max-le (voxel_count g.axes) 0 labels (omega arith) (label-le g low labels are)
+
     beyond : (v : ℕ) → fold max 0 labels ≤ v → v < voxel_count g.axes → names_itself labels v ≡ false
     beyond v le lt = let h = get_or-le-fold 0 labels v in ne_eqb (label_of labels v) (v + 1) (omega arith)

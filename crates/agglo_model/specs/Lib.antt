@@ -16,3 +16,4 @@ pub mod GreedyExamples
 pub mod Cell
 pub mod LabelMap
 pub mod Laws
+pub mod Examples

@@ -1,5 +1,5 @@
 -- The bytes of a volume file, version 1, and what is wrong with other bytes.
-use Rattle.std.specs.Prelude.{◌≡◌, ℕ, ◌+◌, ◌*◌, ◌-◌, ◌==◌, nat_lt, nat_eq, Bool, if◌then◌else◌, List, length, take, drop, slice_index, sum, Option, Some, None, codes, MatchOption}
+use Rattle.std.specs.Prelude.{ℕ, ◌+◌, ◌*◌, ◌==◌, nat_lt, nat_eq, if◌then◌else◌, List, length, take, drop, slice_index, sum, Option, Some, None, codes}
 use Rattle.std.specs.List.{starts_with}
 use Rattle.agglo_model.specs.Axes.{Axes, AxesFlaw, axes_flaw, edge_count}
 use Rattle.agglo_model.specs.Grid.{Grid}

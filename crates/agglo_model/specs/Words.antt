@@ -35,7 +35,7 @@ pub record BasinsSettings : Type 0 where
 pub record SpellsBasins (words : List (List ℕ)) (settings : BasinsSettings) : Type 0 where
   pub number : List ℕ
   pub in_order : words ≡ codes "basins" ∷ codes "--volume" ∷ settings.volume
-    ∷ codes "--labels" ∷ settings.labels ∷ codes "--low" ∷ number ∷ []
+      ∷ codes "--labels" ∷ settings.labels ∷ codes "--low" ∷ number ∷ []
   pub two_names : AreNames settings.volume settings.labels
   pub low_number : IsNumber 0 255 number
   pub low_value : digits_number number ≡ settings.low

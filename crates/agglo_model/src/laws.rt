@@ -5,23 +5,19 @@ ghost use Rattle.agglo_model.specs.Laws.{HasOneLabelling, LabelsAreBounded, Name
 /// properties.
 pub fn one_labelling()
     ensures { HasOneLabelling }
-{
-}
+{}
 
 /// The name of a basin, less 1, is a voxel of the basin.
 pub fn names_of_voxels()
     ensures { NamesNameVoxels }
-{
-}
+{}
 
 /// No label is above the number of voxels.
 pub fn bounded_labels()
     ensures { LabelsAreBounded }
-{
-}
+{}
 
 /// There are as many basins as voxels whose label is their own number plus 1.
 pub fn counted_names()
     ensures { NamesAreCounted }
-{
-}
+{}

@@ -1,6 +1,9 @@
 //! The definitions that every contract of this repository cites, and the laws over them.
+//!
+//! It stands on nothing but std, and every other crate stands on it.
 #![tactic(auto)]
 
+pub mod examples;
 pub mod greedy_examples;
 pub mod laws;
 
