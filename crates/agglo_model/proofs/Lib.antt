@@ -1,3 +1,6 @@
 pub mod Totals
 pub mod ContactEdges
 pub mod FirstPairs
+pub mod Means
+pub mod Renames
+pub mod Reducible

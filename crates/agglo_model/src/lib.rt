@@ -2,6 +2,7 @@
 #![tactic(auto)]
 
 pub mod greedy_examples;
+pub mod laws_of_means;
 
 use std::alloc::{AllocError, AllocFailed};
 
