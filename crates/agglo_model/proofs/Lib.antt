@@ -9,3 +9,6 @@ pub mod FirstPairs
 pub mod Places
 pub mod Names
 pub mod Worked
+pub mod Means
+pub mod Renames
+pub mod Reducible

@@ -1,7 +1,7 @@
 -- Totals of the edges that pass a test: where none passes, where one does, and of two tests at once.
 use Rattle.std.proofs.Common.{◌≡◌, ℕ, ◌+◌, ◌<◌, ◌≤◌, min, Bool, true, false, cond, not, ◌&&◌, ◌||◌, List, [], ◌∷◌, length, get_or, sum_by, count_by, refl, sym, ap, zero-add, ◌∙◌, subst, arith}
 use Rattle.std.specs.List.{position_or_len}
-use Rattle.std.proofs.lemmas.List.Sums.{sum_by-cons, get_or-le-sum_by, passes_at_first, fails_before_first}
+use Rattle.std.proofs.lemmas.List.Sums.{sum_by-cons, get_or-le-sum_by, prefix_len-le-length, passes_at_first, fails_before_first}
 use Rattle.std.proofs.lemmas.List.FromFn.{get_or-range_with_len, length-range_with_len}
 use Rattle.std.proofs.lemmas.Bool.{false≢true}
 use Rattle.agglo_model.specs.Axes.{edge_count}
@@ -149,3 +149,11 @@ total-none g p none = (
   sum-none p (affinity g) (edge_numbers g) none,
   first-none p (edge_numbers g) none ∙ length-range_with_len 0 (edge_count g.axes),
 )
+
+-- the tie is at most the number past all edges
+pub total-tie-le : (g : Grid) (p : ℕ → Bool) → (total g p).tie ≤ edge_count g.axes
+unfolding total
+total-tie-le g p =
+    let len = length-range_with_len 0 (edge_count g.axes) in
+    let most = prefix_len-le-length (λ e. not (p e)) (edge_numbers g) in
+    omega (arith, len, most)

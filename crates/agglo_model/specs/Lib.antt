@@ -6,6 +6,7 @@ pub mod Basins
 pub mod PairOrder
 pub mod Contacts
 pub mod Greedy
+pub mod MeanLaws
 pub mod VolumeFile
 pub mod LabelFile
 pub mod MergeTree

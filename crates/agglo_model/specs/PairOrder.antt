@@ -1,5 +1,5 @@
 -- The contact of two regions as three numbers, the order of contacts, and the threshold.
-use Rattle.std.specs.Prelude.{◌≡◌, ℕ, ◌+◌, ◌*◌, ◌<◌, ◌≤◌, ◌⊎◌, min}
+use Rattle.std.specs.Prelude.{◌≡◌, ℕ, ◌+◌, ◌*◌, ◌^◌, ◌<◌, ◌≤◌, ◌⊎◌, min}
 
 -- the sum of the affinities of the contact's edges, how many edges they are, and the least of their
 -- numbers, which breaks ties; the mean affinity is sum / count
@@ -7,6 +7,18 @@ pub record Contact : Type 0 where
   pub sum : ℕ
   pub count : ℕ
   pub tie : ℕ
+
+-- as many edge numbers as the largest volume has: three for each of 2^28 voxels
+abbrev pub most_edges : ℕ
+most_edges = 3 * 2 ^ 28
+
+-- the three numbers can be those of a contact: some edges, no more than the largest volume has, a
+-- byte for each of them, and an edge number as the tie
+pub record IsWithinLimits (c : Contact) : Type 0 where
+  pub some : 0 < c.count
+  pub few : c.count ≤ most_edges
+  pub bytes : c.sum ≤ 255 * c.count
+  pub edge : c.tie < most_edges
 
 -- the contact of two sets of edges that share none
 abbrev pub added : Contact → Contact → Contact

@@ -1,0 +1,1 @@
+pub use Rattle.agglo_model.specs.PairOrder

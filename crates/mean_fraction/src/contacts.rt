@@ -1,0 +1,145 @@
+ghost use Rattle.std.specs.Prelude.{◌≡◌, ◌+◌, ◌<◌, ◌≤◌, ◌↔◌, SomeIff};
+ghost use Rattle.agglo_model.specs.PairOrder.{
+  IsWithinLimits,
+  Before,
+  SameRank,
+  added,
+  most_edges,
+};
+
+use std::cmp::Ordering;
+use std::marker::Model;
+
+/// As many edge numbers as the largest volume has: three for each of 2^28 voxels.
+const MOST_EDGES: u32 = 805_306_368;
+
+/// The contact of two regions: the sum of the affinities of its edges, how many edges they are, and
+/// the least edge number, which breaks ties. Its mean affinity is the sum over the count.
+#[derive(Clone, Copy, Debug, PartialEq, Eq)]
+pub struct Contact {
+    sum: u64,
+    count: u64,
+    tie: u32,
+}
+
+impl Model for Contact {
+    ghost use Rattle.agglo_model.specs.PairOrder.{Contact as ContactNumbers, IsWithinLimits};
+
+    ghost Value = { ContactNumbers };
+
+    ghost view = { λ c. record { sum = c.sum; count = c.count; tie = c.tie } };
+
+    ghost invariant = { λ c. IsWithinLimits (record { sum = c.sum; count = c.count; tie = c.tie }) };
+
+    ghost inverse = { λ c. record { sum = c.sum; count = c.count; tie = c.tie } };
+}
+
+impl Contact {
+    /// The contact that one edge makes, of this affinity and this number.
+    pub fn one(byte: u8, edge: u32) -> Contact
+        requires { edge < most_edges }
+        ensures { result ≡ record { sum = byte; count = 1; tie = edge } }
+    {
+        Contact {
+            sum: u64::from(byte),
+            count: 1,
+            tie: edge,
+        }
+    }
+
+    /// The contact of these numbers; none where no volume has such a contact: without an edge, with
+    /// more edges than there are, with a sum above 255 an edge, or with no edge's number as the tie.
+    pub fn of(sum: u64, count: u64, tie: u32) -> Option<Contact>
+        ensures { SomeIff result (IsWithinLimits (record { sum = sum; count = count; tie = tie }))
+            (record { sum = sum; count = count; tie = tie }) }
+    {
+        let counted = count >= 1 && count <= u64::from(MOST_EDGES);
+        if counted && sum <= 255 * count && tie < MOST_EDGES {
+            Some(Contact { sum, count, tie })
+        } else {
+            None
+        }
+    }
+
+    /// The sum of the affinities.
+    pub fn sum(&self) -> u64
+        ensures value { result ≡ self.now.sum }
+        ensures limits { IsWithinLimits self.now }
+    {
+        self.sum
+    }
+
+    /// How many edges there are, at least 1.
+    pub fn count(&self) -> u64
+        ensures value { result ≡ self.now.count }
+        ensures limits { IsWithinLimits self.now }
+    {
+        self.count
+    }
+
+    /// The least edge number.
+    pub fn tie(&self) -> u32
+        ensures value { result ≡ self.now.tie }
+        ensures limits { IsWithinLimits self.now }
+    {
+        self.tie
+    }
+
+    /// The contact of the edges of both, which share none.
+    pub fn add(self, other: Contact) -> Contact
+        requires { self.count + other.count ≤ most_edges }
+        ensures { result ≡ added self other }
+    {
+        Contact {
+            sum: self.sum + other.sum,
+            count: self.count + other.count,
+            tie: self.tie.min(other.tie),
+        }
+    }
+}
+
+/// Compares two contacts by pair order: the one that comes first is the greater. The means are
+/// compared as exact fractions, and equal means by their ties, of which the smaller comes first.
+pub fn rank(a: &Contact, b: &Contact) -> Ordering
+    ensures greater { (result ≡ Ordering.Greater) ↔ Before a.now b.now }
+    ensures less { (result ≡ Ordering.Less) ↔ Before b.now a.now }
+    ensures equal { (result ≡ Ordering.Equal) ↔ SameRank a.now b.now }
+{
+    let left = u128::from(a.sum) * u128::from(b.count);
+    let right = u128::from(b.sum) * u128::from(a.count);
+    match left.cmp(&right) {
+        Ordering::Equal => b.tie.cmp(&a.tie),
+        unequal => unequal,
+    }
+}
+
+#[cfg(test)]
+mod tests {
+    use super::{Contact, rank};
+    use std::cmp::Ordering;
+
+    fn ranked(one: Option<Contact>, other: Option<Contact>) -> Option<Ordering> {
+        Some(rank(&one?, &other?))
+    }
+
+    #[test]
+    fn numbers_of_no_contact_are_refused(rt: HostRuntime) {
+        assert_eq!(rt; Contact::of(1, 0, 0), None);
+        assert_eq!(rt; Contact::of(256, 1, 0), None);
+    }
+
+    #[test]
+    fn equal_means_rank_by_tie(rt: HostRuntime) {
+        let ranked = ranked(Contact::of(1, 2, 9), Contact::of(2, 4, 7));
+        assert_eq!(rt; ranked, Some(Ordering::Less));
+    }
+
+    #[test]
+    fn products_past_64_bits_are_exact(rt: HostRuntime) {
+        let ranked = ranked(
+            Contact::of(34_359_738_367, 536_870_912, 0),
+            Contact::of(34_359_738_368, 536_870_912, 9),
+        );
+        assert_eq!(rt; ranked, Some(Ordering::Less));
+    }
+}
