@@ -1,2 +1,3 @@
 pub mod FileDesk
 pub mod Texts
+pub mod Writing

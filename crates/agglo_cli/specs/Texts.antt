@@ -14,12 +14,16 @@ texts words = map string_bytes words
 abbrev pub SpellNothing : List (List ℕ) → Type 0
 SpellNothing words = (settings : BasinsSettings) → ¬ (SpellsBasins words settings)
 
+-- the words spell these values of their options
+abbrev pub SpellsValues : List (List ℕ) → List ℕ → List ℕ → ℕ → Type 0
+SpellsValues words volume labels low = SpellsBasins words (record { volume = volume; labels = labels; low = low })
+
 -- the words spell this job
 abbrev pub SpellsJob : List (List ℕ) → Job → Type 0
 SpellsJob words (Basins volume labels low) =
-    SpellsBasins words (record { volume = string_bytes volume; labels = string_bytes labels; low = low })
+    SpellsValues words (string_bytes volume) (string_bytes labels) low
 
--- why words were refused
+-- why words were refused: memory is asked for only once they are settings
 abbrev pub RefusesWords : List (List ℕ) → WordsFault → Type 0
 RefusesWords words NoSettings = SpellNothing words
-RefusesWords words Memory = Unit {0}
+RefusesWords words Memory = (settings : BasinsSettings) × SpellsBasins words settings

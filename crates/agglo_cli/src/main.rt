@@ -3,6 +3,8 @@
 
 mod file_desk;
 mod job;
+mod note;
+mod output;
 mod words;
 
 use std::process::ExitCode;

@@ -1,7 +1,7 @@
 ghost use Rattle.std.specs.Prelude.{◌≡◌, ℕ, ◌≤◌, ◌↔◌, IsTrue, All, MatchOption, MatchResult, length, codes};
 ghost use Rattle.std.specs.Char.{IsAsciiDigit};
 ghost use Rattle.agglo_model.specs.Words.{IsName, AreNames, IsNumber, digits_number};
-ghost use Rattle.agglo_cli.specs.Texts.{texts, SpellsJob, RefusesWords};
+ghost use Rattle.agglo_cli.specs.Texts.{texts, SpellsJob, SpellsValues, SpellNothing, RefusesWords};
 
 use crate::job::{Job, WordsFault};
 use std::alloc::Global;
@@ -14,6 +14,31 @@ const MOST_DIGITS: usize = 10;
 pub fn read_words(alloc: Global, words: &[String]) -> Result<Job, WordsFault>
     ensures { MatchResult result (SpellsJob (texts words.now)) (RefusesWords (texts words.now)) }
 {
+    let Some(values) = basins_values(words) else {
+        return Err(WordsFault::NoSettings);
+    };
+    let volume = String::from_str(alloc, values.volume)?;
+    let labels = String::from_str(alloc, values.labels)?;
+    Ok(Job::Basins {
+        volume,
+        labels,
+        low: values.low,
+    })
+}
+
+/// The values of the options of `basins`.
+#[derive(Clone, Copy)]
+struct BasinsValues<'a> {
+    volume: &'a str,
+    labels: &'a str,
+    low: u8,
+}
+
+/// What the words of `basins` spell, or nothing where they are no settings.
+fn basins_values(words: &[String]) -> Option<BasinsValues<'_>>
+    ensures { MatchOption result (SpellNothing (texts words.now))
+        (λ values. SpellsValues (texts words.now) values.volume.now values.labels.now values.low) }
+{
     let [
         command,
         volume_option,
@@ -24,7 +49,7 @@ pub fn read_words(alloc: Global, words: &[String]) -> Result<Job, WordsFault>
         low,
     ] = words
     else {
-        return Err(WordsFault::NoSettings);
+        return None;
     };
     let (first, second, third) = (
         volume_option.as_str(),
@@ -32,18 +57,16 @@ pub fn read_words(alloc: Global, words: &[String]) -> Result<Job, WordsFault>
         low_option.as_str(),
     );
     if !are_basins_words(command.as_str(), first, second, third) {
-        return Err(WordsFault::NoSettings);
+        return None;
     }
     let (volume, labels) = (volume.as_str(), labels.as_str());
     if !are_names(volume, labels) {
-        return Err(WordsFault::NoSettings);
+        return None;
     }
-    let Some(low) = parse_byte(low.as_str()) else {
-        return Err(WordsFault::NoSettings);
-    };
-    Ok(Job::Basins {
-        volume: String::from_str(alloc, volume)?,
-        labels: String::from_str(alloc, labels)?,
+    let low = parse_byte(low.as_str())?;
+    Some(BasinsValues {
+        volume,
+        labels,
         low,
     })
 }

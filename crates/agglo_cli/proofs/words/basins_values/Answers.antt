@@ -1,6 +1,6 @@
 use Rattle.std.proofs.Common.{◌≡◌, ℕ, List, [], ◌∷◌, length, get_or, map, arith, ap, sym, ◌∙◌, string_bytes, codes, refl}
 use Rattle.std.proofs.lemmas.Grind.{common_steps}
-use Rattle.agglo_cli.proofs.words.read_words.Goals as goal
+use Rattle.agglo_cli.proofs.words.basins_values.Goals as goal
 
 -- a list of seven, by its items
 seven_items : {X : Type 0} (xs : List X) (a b c d e f g : X) → length xs ≡ 7
@@ -26,9 +26,9 @@ returns c = record {
         c.if-not-are_basins_words.ensures.0 refl in
     map_seven string_bytes _ _ _ _ _ _ _ _ _ _ _ _ _ _ _ whole
       (sym c.as_str.ensures.value ∙ stand.0) (sym c.as_str-first.ensures.value ∙ stand.1)
-      (sym c.as_str-volume.ensures.value ∙ sym c.in_ok-from_str.ensures.ok)
+      (sym c.as_str-volume.ensures.value)
       (sym c.as_str-second.ensures.value ∙ stand.2)
-      (sym c.as_str-labels.ensures.value ∙ sym c.in_ok-from_str-2.ensures.ok)
+      (sym c.as_str-labels.ensures.value)
       (sym c.as_str-third.ensures.value ∙ stand.3) refl;
   two_names = grind (arith, common_steps);
   low_number = grind (arith, common_steps);
