@@ -1,5 +1,5 @@
 -- What a desk in memory means: all that its calls go by, and the state of a desk that it is.
-use Rattle.std.specs.Prelude.{◌≡◌, ℕ, ◌+◌, ◌-◌, ◌^◌, ◌==◌, ◌≤◌, ◌<◌, ◌⊎◌, true, Bool, false, if◌then◌else◌, MatchOption, List, [], ◌∷◌, ◌++◌, take, drop, length, min, Option, Some, None}
+use Rattle.std.specs.Prelude.{◌≡◌, ℕ, slice_index_or, ◌+◌, ◌-◌, ◌^◌, ◌==◌, ◌≤◌, ◌<◌, ◌⊎◌, true, Bool, false, if◌then◌else◌, MatchOption, List, [], ◌∷◌, ◌++◌, take, drop, length, min, Option, Some, None}
 use Rattle.std.specs.Option.{unwrap_or}
 use Rattle.std.specs.List.{list_any}
 use Rattle.seg_io.specs.declared.port.Port.{Port}
@@ -85,3 +85,13 @@ pub record WritesOutput (k most : ℕ) (bytes : List ℕ) (old new : OutputState
 pub record RefusesOutput (old new : OutputState) : Type 0 where
   pub refused : IsRefused old
   pub after : new ≡ record old { calls = counted old.calls }
+
+-- the files, the newest first, and the input that is open
+pub record InputState : Type 0 where
+  pub files : List File
+  pub has_input : Bool
+  pub left : List ℕ
+
+-- the bytes of the file at a place in the list
+abbrev pub bytes_at : ℕ → List File → List ℕ
+bytes_at place files = (slice_index_or files place (record { name = []; bytes = [] })).bytes

@@ -1,4 +1,5 @@
 pub mod Desk
 pub mod Piecing
 pub mod InMemory
+pub mod Reading
 pub use Rattle.agglo_model.specs.Count

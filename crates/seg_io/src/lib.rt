@@ -3,6 +3,7 @@
 
 mod call_count;
 mod desk;
+mod input_files;
 mod output;
 mod piecer;
 mod pieces;
