@@ -4,7 +4,7 @@ use Rattle.std.specs.Option.{unwrap_or}
 use Rattle.std.specs.List.{list_any}
 use Rattle.seg_io.specs.declared.port.Port.{Port}
 use Rattle.seg_io.specs.declared.port.Port.TheVariants.{Labels, Tree, Volume, Note, Trouble}
-use Rattle.seg_io.specs.Desk.{DeskState, File, Opened}
+use Rattle.seg_io.specs.Desk.{DeskState, File, Opened, IsListed}
 
 -- a count that goes up by one, and stands still at its last value
 abbrev pub one_more : ℕ → ℕ
@@ -95,3 +95,35 @@ pub record InputState : Type 0 where
 -- the bytes of the file at a place in the list
 abbrev pub bytes_at : ℕ → List File → List ℕ
 bytes_at place files = (slice_index_or files place (record { name = []; bytes = [] })).bytes
+
+-- the ports that were opened, and the most bytes that a name has
+pub record OpenedState : Type 0 where
+  pub list : List Opened
+  pub room : ℕ
+
+-- the port is a file that may be opened, and stands not in the list
+abbrev pub IsFresh : Port → List Opened → Type 0
+IsFresh Labels list = ¬ (IsListed Labels list)
+IsFresh Tree list = ¬ (IsListed Tree list)
+IsFresh Volume list = ¬ (IsListed Volume list)
+IsFresh Note list = ⊥
+IsFresh Trouble list = ⊥
+
+-- 1 where the two are the same port of a file, and else 0
+abbrev pub same_port : Port → Port → ℕ
+same_port Labels Labels = 1
+same_port Tree Tree = 1
+same_port Volume Volume = 1
+same_port _ _ = 0
+
+-- how often a port stands in the list
+abbrev pub times_listed : Port → List Opened → ℕ
+times_listed port [] = 0
+times_listed port (opened ∷ others) = same_port port opened.port + times_listed port others
+
+-- each of the three ports that may be opened stands there at most once, and no other
+pub record AreDistinct (list : List Opened) : Type 0 where
+  pub all : length list ≡ times_listed Labels list + times_listed Tree list + times_listed Volume list
+  pub labels : times_listed Labels list ≤ 1
+  pub tree : times_listed Tree list ≤ 1
+  pub volume : times_listed Volume list ≤ 1

@@ -4,6 +4,7 @@
 mod call_count;
 mod desk;
 mod input_files;
+mod opened_ports;
 mod output;
 mod piecer;
 mod pieces;
