@@ -4,6 +4,7 @@
 mod call_count;
 mod desk;
 mod input_files;
+mod memory_desk;
 mod opened_ports;
 mod output;
 mod piecer;
@@ -11,6 +12,7 @@ mod pieces;
 mod port;
 
 pub use desk::{Desk, Failed};
+pub use memory_desk::{CallKind, MemoryDesk, Side};
 pub use piecer::Piecer;
 pub use pieces::{PIECE_LENGTH, fill, put_all};
 pub use port::Port;

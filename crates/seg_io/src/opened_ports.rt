@@ -1,4 +1,4 @@
-ghost use Rattle.std.specs.Prelude.{◌≡◌, ℕ, ◌≤◌, ◌↔◌, ◌∷◌, ◌++◌, [], IsTrue, length, MatchOption, IfOk};
+ghost use Rattle.std.specs.Prelude.{◌≡◌, ℕ, ◌<◌, ◌≤◌, ◌↔◌, ◌∷◌, ◌++◌, [], IsTrue, length, MatchOption, IfOk};
 ghost use Rattle.std.specs.List.{Contains};
 ghost use Rattle.seg_io.specs.Desk.{Opened, IsListed};
 ghost use Rattle.seg_io.specs.InMemory.{OpenedState, IsFresh};
@@ -83,7 +83,7 @@ impl OpenedPorts {
 
     /// Whether the name is too long to be kept.
     pub fn is_long(&self, name: &str) -> bool
-        ensures { IsTrue result ↔ ((length name.now ≤ self.now.room) → ⊥) }
+        ensures { IsTrue result ↔ (self.now.room < length name.now) }
     {
         name.len() > self.room
     }
