@@ -3,12 +3,16 @@
 
 mod call_count;
 mod desk;
+mod input_files;
+mod memory_desk;
+mod opened_ports;
 mod output;
 mod piecer;
 mod pieces;
 mod port;
 
 pub use desk::{Desk, Failed};
+pub use memory_desk::{CallKind, MemoryDesk, Side};
 pub use piecer::Piecer;
 pub use pieces::{PIECE_LENGTH, fill, put_all};
 pub use port::Port;
