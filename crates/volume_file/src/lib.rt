@@ -4,6 +4,10 @@
 //! stands on it.
 #![tactic(auto)]
 
+mod fault;
+mod reading;
 mod volume;
 
+pub use fault::VolumeFault;
+pub use reading::read_head;
 pub use volume::{Head, Volume};
