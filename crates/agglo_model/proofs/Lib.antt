@@ -6,3 +6,4 @@ pub mod Names
 pub mod Worked
 pub mod AxesLimits
 pub mod Places
+pub mod Neighbours
