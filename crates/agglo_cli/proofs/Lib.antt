@@ -1,1 +1,2 @@
+mod ReadFile
 mod Written

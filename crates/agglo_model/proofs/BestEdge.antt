@@ -98,10 +98,10 @@ before_tells g e f t = order_tells (affinity g e) (affinity g f) e f t
 pub before_tells_not : (g : Grid) (e f : ℕ) → before g e f ≡ false → e ≢ f → EdgeBefore g f e
 before_tells_not g e f t ne = order_tells_not (affinity g e) (affinity g f) e f t ne
 
-clash : {P : Type 0} (b : Bool) → b ≡ true → b ≡ false → P
+pub clash : {P : Type 0} (b : Bool) → b ≡ true → b ≡ false → P
 clash b p q = cc
 
-first_answers : (g : Grid) (low e : ℕ) (es : List ℕ)
+pub first_answers : (g : Grid) (low e : ℕ) (es : List ℕ)
     → ((f : ℕ) → IsIn f es → is_strong g low f ≡ false)
     → (s : Bool) → is_strong g low e ≡ s → AnswersBest g low (e ∷ es) (if s then Some e else None)
 first_answers g low e es weak true is = record {
@@ -117,7 +117,7 @@ first_answers g low e es weak false is = λ f m. elim m [
   | inr m ↦ weak f m
 ]
 
-takes : (g : Grid) (low e b : ℕ) (es : List ℕ) → IsBestIn g low es b
+pub takes : (g : Grid) (low e b : ℕ) (es : List ℕ) → IsBestIn g low es b
     → is_strong g low e ≡ true → before g e b ≡ true → IsBestIn g low (e ∷ es) e
 takes g low e b es h is up = record {
   stands = inl refl;
@@ -135,7 +135,7 @@ takes g low e b es h is up = record {
     after f m t (inl same) = subst (λ z. EdgeBefore g e z) (sym same) over
     after f m t (inr ne) = before_trans g e b f over (h.first f m t ne)
 
-keeps : (g : Grid) (low e b : ℕ) (es : List ℕ) → IsBestIn g low es b
+pub keeps : (g : Grid) (low e b : ℕ) (es : List ℕ) → IsBestIn g low es b
     → (is_strong g low e ≡ true → e ≢ b → EdgeBefore g b e) → IsBestIn g low (e ∷ es) b
 keeps g low e b es h under = record {
   stands = inr h.stands;
@@ -204,10 +204,10 @@ one_of_six_meets a v e (inr (inr (inr (inr (inl is))))) = on_meets a v 1 e (lit<
 one_of_six_meets a v e (inr (inr (inr (inr (inr (inl is)))))) = on_meets a v 2 e (lit< tt) is
 one_of_six_meets a v e (inr (inr (inr (inr (inr (inr no_more)))))) = absurd no_more
 
-strong_test : (b : Bool) (low a : ℕ) → b ≡ true → low ≤ a → (b && nat_le low a) ≡ true
+pub strong_test : (b : Bool) (low a : ℕ) → b ≡ true → low ≤ a → (b && nat_le low a) ≡ true
 strong_test b low a is le = grind (arith, nat_tests)
 
-strong_tells : (b : Bool) (low a : ℕ) → (b && nat_le low a) ≡ true → (b ≡ true) × (low ≤ a)
+pub strong_tells : (b : Bool) (low a : ℕ) → (b && nat_le low a) ≡ true → (b ≡ true) × (low ≤ a)
 strong_tells b low a t = grind (arith, nat_tests)
 
 -- the best edge of a voxel, by looking at six
@@ -220,7 +220,7 @@ strong_at g low v e m t =
     let p = strong_tells (is_edge g.axes e) low (affinity g e) t in
     record { edge = p.0; meets = one_of_six_meets g.axes v e m; strong = p.1 }
 
-best_at : (g : Grid) (low v b : ℕ) → IsBestIn g low (edges_at g.axes v) b → IsBest g low v b
+pub best_at : (g : Grid) (low v b : ℕ) → IsBestIn g low (edges_at g.axes v) b → IsBest g low v b
 best_at g low v b h = record {
   strong = strong_at g low v b h.stands h.strong;
   first = λ f s ne. h.first f (meets_one_of_six g.axes v f s.edge s.meets)
@@ -231,7 +231,7 @@ best_at g low v b h = record {
 abbrev pub HasNoStrong : Grid → ℕ → ℕ → Type 0
 HasNoStrong g low v = (e : ℕ) → ¬ (IsStrongAt g low v e)
 
-none_at : (g : Grid) (low v : ℕ) → ((f : ℕ) → IsIn f (edges_at g.axes v) → is_strong g low f ≡ false)
+pub none_at : (g : Grid) (low v : ℕ) → ((f : ℕ) → IsIn f (edges_at g.axes v) → is_strong g low f ≡ false)
     → HasNoStrong g low v
 none_at g low v weak f s = clash (is_strong g low f)
     (strong_test (is_edge g.axes f) low (affinity g f) s.edge s.strong)

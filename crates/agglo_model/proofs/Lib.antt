@@ -12,3 +12,4 @@ pub mod Worked
 pub mod Means
 pub mod Renames
 pub mod Reducible
+pub mod Neighbours

@@ -1,0 +1,10 @@
+//! Which of two edges is stronger, and the strongest edge at a voxel.
+//!
+//! It stands on `volume_file`, whose affinities it compares. The ascent to basins stands on it.
+#![tactic(auto)]
+
+mod best;
+mod step;
+
+pub use best::{best_edge, best_step, stronger};
+pub use step::Step;

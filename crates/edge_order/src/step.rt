@@ -1,0 +1,40 @@
+ghost use Rattle.std.specs.Prelude.{◌≡◌, ◌<◌};
+ghost use Rattle.agglo_model.specs.Axes.{voxel_count};
+ghost use Rattle.edge_order.specs.Steps.{edge_at};
+
+use seg_base::Dims;
+
+/// One of the six edges of a voxel, by where it leads: back to the predecessor on an axis, or on to
+/// the successor. `Stay` is none of them. It takes one byte.
+#[derive(Clone, Copy, Debug, PartialEq, Eq)]
+pub enum Step {
+    Stay,
+    BackX,
+    BackY,
+    BackZ,
+    OnX,
+    OnY,
+    OnZ,
+}
+
+const _: () = prove!(size_of::<Step>() == 1);
+
+impl Step {
+    /// The number of the edge that this step takes from voxel `v`.
+    pub fn edge(self, dims: &Dims, v: u32) -> Option<u32>
+        requires { v < voxel_count dims.now }
+        ensures { result ≡ edge_at dims.now v self }
+    {
+        let row = dims.nx();
+        let layer = row * dims.ny();
+        match self {
+            Step::Stay => None,
+            Step::BackX => Some(3 * v),
+            Step::BackY => Some(3 * v + 1),
+            Step::BackZ => Some(3 * v + 2),
+            Step::OnX => Some(3 * (v + 1)),
+            Step::OnY => Some(3 * (v + row) + 1),
+            Step::OnZ => Some(3 * (v + layer) + 2),
+        }
+    }
+}
