@@ -4,3 +4,6 @@ pub mod FirstPairs
 pub mod Means
 pub mod Renames
 pub mod Reducible
+pub mod Diamonds
+pub mod Falling
+pub mod MutualRuns

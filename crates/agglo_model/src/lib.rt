@@ -3,6 +3,7 @@
 
 pub mod greedy_examples;
 pub mod laws_of_means;
+pub mod laws_of_merging;
 
 use std::alloc::{AllocError, AllocFailed};
 
