@@ -7,3 +7,5 @@ pub mod Reducible
 pub mod Diamonds
 pub mod Falling
 pub mod MutualRuns
+pub mod FirstExists
+pub mod SortedMerges

@@ -12,11 +12,11 @@ use Rattle.agglo_model.proofs.Diamonds.{diamond}
 use Rattle.agglo_model.proofs.Falling.{first-any}
 
 -- a run in which one merge was taken first
-record TakesFirst (g : Grid) (t : Threshold) (labels : List ℕ) (m : Merge) (merges : List Merge) : Type 0 where
-  rest : List Merge
-  run : IsMutualRun g t (after_merge labels m) rest
-  reordered : IsPermutation merges (m ∷ rest)
-  same_labels : after_merges labels merges ≡ after_merges (after_merge labels m) rest
+pub record TakesFirst (g : Grid) (t : Threshold) (labels : List ℕ) (m : Merge) (merges : List Merge) : Type 0 where
+  pub rest : List Merge
+  pub run : IsMutualRun g t (after_merge labels m) rest
+  pub reordered : IsPermutation merges (m ∷ rest)
+  pub same_labels : after_merges labels merges ≡ after_merges (after_merge labels m) rest
 
 same_merge : (m n : Merge) → m.survivor ≡ n.survivor → m.absorbed ≡ n.absorbed → m.contact ≡ n.contact
     → m ≡ n
@@ -75,7 +75,7 @@ taken_later g t labels m n merges run open_step apart later =
     }
 
 -- a run takes each merge that is open at its start, and may as well take it first
-to_front : (g : Grid) (t : Threshold) (labels : List ℕ) (merges : List Merge) (m : Merge)
+pub to_front : (g : Grid) (t : Threshold) (labels : List ℕ) (merges : List Merge) (m : Merge)
     → IsMutualRun g t labels merges → IsMutualStep g t labels m → TakesFirst g t labels m merges
 to_front g t labels [] m run open_step = absurd (run m.survivor m.absorbed open_step.reciprocal)
 to_front g t labels (n ∷ merges) m run open_step =

@@ -38,3 +38,9 @@ abbrev pub AnyOrder : Type 0
 AnyOrder = (g : Grid) (t : Threshold) (labels : List ℕ) (merges greedy : List Merge)
     → IsMutualRun g t labels merges → IsGreedyRun g t labels greedy
     → SameOutcome labels merges greedy
+
+-- The merges of any such run, put into pair order, are a greedy run.
+abbrev pub SortedIsGreedy : Type 0
+SortedIsGreedy = (g : Grid) (t : Threshold) (labels : List ℕ) (merges sorted : List Merge)
+    → IsMutualRun g t labels merges → IsPermutation merges sorted → AreFalling sorted
+    → IsGreedyRun g t labels sorted × (after_merges labels merges ≡ after_merges labels sorted)

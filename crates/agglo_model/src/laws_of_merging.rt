@@ -1,7 +1,7 @@
 //! Laws of whole runs of merges. Each function has no body: its contract is the law, over the
 //! definitions alone.
 
-ghost use Rattle.agglo_model.specs.MergeLaws.{AnyOrder, Diamond, GreedyFalls};
+ghost use Rattle.agglo_model.specs.MergeLaws.{AnyOrder, Diamond, GreedyFalls, SortedIsGreedy};
 
 /// Two different reciprocal pairs share no name. Each stays reciprocal after the merge of the other,
 /// with the same contact, and the two merges may be made in either order.
@@ -20,4 +20,9 @@ pub fn greedy_contacts_fall()
 #[tactic(auto, using(crate::proofs::MutualRuns::any_order))]
 pub fn any_order_is_greedy()
     ensures { AnyOrder }
+{}
+
+/// The merges of a run in whatever order, put into pair order, are those of greedy agglomeration.
+pub fn sorted_merges_are_greedy()
+    ensures { SortedIsGreedy }
 {}
