@@ -60,11 +60,11 @@ same_pair : (i : Bool) (x y a b c d : ℕ) → ((i && differ x y) && are x y c d
 same_pair i x y a b c d joined is_ab ab cd other = grind (arith, nat_tests)
 
 -- the edge's names are c and d, in one order or the other
-names_are : (i : Bool) (x y c d : ℕ) → ((i && differ x y) && are x y c d) ≡ true
+pub names_are : (i : Bool) (x y c d : ℕ) → ((i && differ x y) && are x y c d) ≡ true
     → ((x ≡ c) × (y ≡ d)) ⊎ ((x ≡ d) × (y ≡ c))
 names_are i x y c d joined = grind (arith, nat_tests)
 
-edge_of : (i : Bool) (x y c d : ℕ) → ((i && differ x y) && are x y c d) ≡ true
+pub edge_of : (i : Bool) (x y c d : ℕ) → ((i && differ x y) && are x y c d) ≡ true
     → (i && differ x y) ≡ true
 edge_of i x y c d joined = grind arith
 
@@ -72,10 +72,10 @@ or_of : (a b : Bool) → (a || b) ≡ true → (a ≡ true) ⊎ (b ≡ true)
 or_of true b h = inl refl
 or_of false b h = inr h
 
-contact_at : (g : Grid) (labels : List ℕ) (x y c d : ℕ)
+pub contact_of_names : (g : Grid) (labels : List ℕ) (x y c d : ℕ)
     → ((x ≡ c) × (y ≡ d)) ⊎ ((x ≡ d) × (y ≡ c)) → between g labels x y ≡ between g labels c d
-contact_at g labels x y c d (inl (p, q)) = λ i. between g labels (p i) (q i)
-contact_at g labels x y c d (inr (p, q)) =
+contact_of_names g labels x y c d (inl (p, q)) = λ i. between g labels (p i) (q i)
+contact_of_names g labels x y c d (inr (p, q)) =
     between-swap g labels x y ∙ (λ i. between g labels (q i) (p i))
 
 -- the test at one edge of a contact shows that the pair comes before it
@@ -95,7 +95,7 @@ later_at g labels a b c d e ab cd other joined pass =
     elim (or_of _ _ opened) [
       | inl is_ab ↦ absurd (same_pair i x y a b c d joined is_ab ab cd other)
       | inr before ↦ subst (Before (between g labels a b))
-          (contact_at g labels x y c d (names_are i x y c d joined))
+          (contact_of_names g labels x y c d (names_are i x y c d joined))
           (before_test-sound (between g labels a b) (between g labels x y) before)
     ]
 

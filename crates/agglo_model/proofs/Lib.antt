@@ -13,3 +13,8 @@ pub mod Means
 pub mod Renames
 pub mod Reducible
 pub mod Neighbours
+pub mod Diamonds
+pub mod Falling
+pub mod MutualRuns
+pub mod FirstExists
+pub mod SortedMerges

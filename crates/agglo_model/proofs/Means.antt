@@ -1,7 +1,7 @@
 -- Pair order by cross products, and the mean of two contacts that are added up.
 use Rattle.std.proofs.Common.{◌≢◌, ◌⊎◌, inl, inr, ℕ, ◌*◌, ◌<◌, ◌≤◌, arith}
 use Rattle.std.proofs.Math.Nat.{mul-le-mul_right, mul-lt-mul_of_pos_right, le_of_mul-le-mul_left, lt_of_mul-lt-mul_left}
-use Rattle.agglo_model.specs.PairOrder.{Contact, Before, added}
+use Rattle.agglo_model.specs.PairOrder.{Contact, Threshold, Before, Reaches, added}
 use Rattle.agglo_model.specs.MeanLaws.{AddsUp, IsStrictOrder}
 
 pub before_irrefl : (c : Contact) → ¬ (Before c c)
@@ -68,3 +68,11 @@ added_means c d pc pd = record {
   not_before_first = λ first before. omega (arith, first, before);
   not_before_second = λ first before. omega (arith, first, before);
 }
+
+-- what comes before a contact that reaches the threshold reaches it too
+pub before-reaches : (t : Threshold) (c d : Contact) → 0 < d.count → Before c d → Reaches t d
+    → Reaches t c
+before-reaches t c d pos (inl one) reaches =
+    falls c.sum c.count d.sum d.count t.p t.q pos (omega (arith, one)) reaches
+before-reaches t c d pos (inr (same, tie)) reaches =
+    falls c.sum c.count d.sum d.count t.p t.q pos (omega (arith, same)) reaches

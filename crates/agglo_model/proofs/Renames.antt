@@ -38,7 +38,7 @@ others_of : (i : Bool) (x y a b c d : ℕ) → b ≢ 0 → c ≢ a → c ≢ b �
 others_of i x y a b c d pb ca cb da db = grind (arith, nat_tests)
 
 -- whether an edge joins c and d after the rename, by the new names of its ends
-joins-renamed : (g : Grid) (labels : List ℕ) (a b c d e : ℕ) → b ≢ 0
+pub joins-renamed : (g : Grid) (labels : List ℕ) (a b c d e : ℕ) → b ≢ 0
     → joins g (renamed labels a b) c d e
     ≡ ((is_edge g.axes e
     && differ (new_name a b (lower_label g labels e)) (new_name a b (higher_label g labels e)))

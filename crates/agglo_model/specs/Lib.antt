@@ -7,6 +7,7 @@ pub mod PairOrder
 pub mod Contacts
 pub mod Greedy
 pub mod MeanLaws
+pub mod MergeLaws
 pub mod VolumeFile
 pub mod LabelFile
 pub mod MergeTree

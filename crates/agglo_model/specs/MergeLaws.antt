@@ -1,0 +1,46 @@
+-- What merging is like over whole runs: the order of reciprocal merges doesn't matter.
+use Rattle.std.specs.Prelude.{◌≡◌, ◌≢◌, ℕ, ◌⊎◌, List, length, IsPermutation}
+use Rattle.std.specs.List.{AllAdjacentBelow}
+use Rattle.agglo_model.specs.Grid.{Grid}
+use Rattle.agglo_model.specs.PairOrder.{Threshold, Before}
+use Rattle.agglo_model.specs.Contacts.{between, renamed}
+use Rattle.agglo_model.specs.Greedy.{Merge, IsMutual, IsMutualRun, IsGreedyRun, after_merges}
+
+-- Two reciprocal pairs share no name. After the merge of a and b the pair of c and d is still
+-- reciprocal, with the same contact, and the two merges give the same labels in either order.
+pub record IsDiamond (g : Grid) (t : Threshold) (labels : List ℕ) (a b c d : ℕ) : Type 0 where
+  pub apart : (c ≢ a) × (c ≢ b) × (d ≢ a) × (d ≢ b)
+  pub still_mutual : IsMutual g t (renamed labels a b) c d
+  pub same_contact : between g (renamed labels a b) c d ≡ between g labels c d
+  pub either_order : renamed (renamed labels a b) c d ≡ renamed (renamed labels c d) a b
+
+abbrev pub Diamond : Type 0
+Diamond = (g : Grid) (t : Threshold) (labels : List ℕ) (a b c d : ℕ)
+    → IsMutual g t labels a b → IsMutual g t labels c d → (c ≢ a) ⊎ (d ≢ b)
+    → IsDiamond g t labels a b c d
+
+-- each contact comes before that of the next merge
+abbrev pub AreFalling : List Merge → Type 0
+AreFalling merges =
+    AllAdjacentBelow (λ m n. Before m.contact n.contact) merges (length merges)
+
+abbrev pub GreedyFalls : Type 0
+GreedyFalls = (g : Grid) (t : Threshold) (labels : List ℕ) (merges : List Merge)
+    → IsGreedyRun g t labels merges → AreFalling merges
+
+-- two runs give the same labels, by the same merges in some order
+pub record SameOutcome (labels : List ℕ) (merges others : List Merge) : Type 0 where
+  pub same_labels : after_merges labels merges ≡ after_merges labels others
+  pub same_merges : IsPermutation merges others
+
+-- Merging reciprocal pairs in whatever order, until none is left, is greedy agglomeration.
+abbrev pub AnyOrder : Type 0
+AnyOrder = (g : Grid) (t : Threshold) (labels : List ℕ) (merges greedy : List Merge)
+    → IsMutualRun g t labels merges → IsGreedyRun g t labels greedy
+    → SameOutcome labels merges greedy
+
+-- The merges of any such run, put into pair order, are a greedy run.
+abbrev pub SortedIsGreedy : Type 0
+SortedIsGreedy = (g : Grid) (t : Threshold) (labels : List ℕ) (merges sorted : List Merge)
+    → IsMutualRun g t labels merges → IsPermutation merges sorted → AreFalling sorted
+    → IsGreedyRun g t labels sorted × (after_merges labels merges ≡ after_merges labels sorted)

@@ -1,0 +1,28 @@
+//! Laws of whole runs of merges. Each function has no body: its contract is the law, over the
+//! definitions alone.
+
+ghost use Rattle.agglo_model.specs.MergeLaws.{AnyOrder, Diamond, GreedyFalls, SortedIsGreedy};
+
+/// Two different reciprocal pairs share no name. Each stays reciprocal after the merge of the other,
+/// with the same contact, and the two merges may be made in either order.
+pub fn reciprocal_merges_commute()
+    ensures { Diamond }
+{}
+
+/// The contacts of greedy merges fall strictly in pair order.
+#[tactic(auto, using(crate::proofs::Falling::greedy_falls))]
+pub fn greedy_contacts_fall()
+    ensures { GreedyFalls }
+{}
+
+/// Merging reciprocal pairs in whatever order, until none is left, ends in the labels of greedy
+/// agglomeration, by the same merges in some order.
+#[tactic(auto, using(crate::proofs::MutualRuns::any_order))]
+pub fn any_order_is_greedy()
+    ensures { AnyOrder }
+{}
+
+/// The merges of a run in whatever order, put into pair order, are those of greedy agglomeration.
+pub fn sorted_merges_are_greedy()
+    ensures { SortedIsGreedy }
+{}
