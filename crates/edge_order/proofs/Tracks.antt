@@ -1,5 +1,5 @@
 -- The best edge of a voxel, kept while its six edges are looked at in ascending order of number.
-use Rattle.std.proofs.Common.{◌≡◌, ◌≢◌, ℕ, ◌+◌, ◌*◌, ◌-◌, ◌<◌, ◌≤◌, ◌⊎◌, ◌==◌, ◌&&◌, ◌||◌, if◌then◌else◌, Bool, true, false, nat_le, nat_lt, IsTrue, List, [], ◌∷◌, Option, Some, None, MatchOption, refl, sym, ◌∙◌, ap, subst, inl, inr, arith, add-zero, lit<}
+use Rattle.std.proofs.Common.{◌≡◌, ◌≢◌, ℕ, ◌+◌, ◌*◌, ◌-◌, ◌<◌, ◌≤◌, ◌⊎◌, ◌==◌, ◌&&◌, ◌||◌, if◌then◌else◌, Bool, true, false, nat_le, nat_lt, IsTrue, List, [], ◌∷◌, Option, Some, None, MatchOption, refl, sym, ◌∙◌, ap, subst, inl, inr, arith, add-zero, lit<, ltb-true, ltb-false, le-mul_of_pos_right, ◌^◌}
 use Rattle.std.proofs.lemmas.Bool.Decides.{nat_tests}
 use Rattle.agglo_model.specs.Axes.{Axes, IsWithinLimits, voxel_at, voxel_count, coordinate, edge_count, is_edge}
 use Rattle.agglo_model.specs.Grid.{Grid, affinity}
@@ -8,10 +8,11 @@ use Rattle.agglo_model.proofs.Edges.{edge_back, edge_on, edge_is}
 use Rattle.agglo_model.proofs.Neighbours.{back_edge, no_back_edge, on_edge_x, on_edge_y, on_edge_z, no_on_edge_x, no_on_edge_y, no_on_edge_z}
 use Rattle.agglo_model.proofs.Places.{place-voxel, voxel_at-place}
 use Rattle.agglo_model.proofs.BestEdge.{is_strong, IsIn, IsBestIn, takes, keeps, first_answers, best_at, none_at, clash, strong_test, strong_tells, edges_at, no_strong_no_best}
-use Rattle.edge_order.specs.Best.{taken}
+use Rattle.edge_order.specs.Best.{better}
 use Rattle.edge_order.specs.Steps.{edge_at, IsBestStep}
 use Rattle.edge_order.specs.declared.best.Best.{Best}
 use Rattle.edge_order.specs.declared.step.Step.{Step}
+use Rattle.edge_order.specs.declared.step.Step.TheVariants.{Stay, BackX, BackY, BackZ, OnX, OnY, OnZ}
 
 -- o is the best of the strong edges of the list, and a later edge needs this byte to be better
 abbrev pub TracksEdge : Grid → ℕ → List ℕ → Option ℕ → ℕ → Type 0
@@ -74,14 +75,6 @@ pick_best g low v e es best s true is h =
     subst (λ o. TracksEdge g low es o (affinity g e + 1)) (sym is) h
 pick_best g low v e es best s false is h = h
 
--- an edge more, and a number that is no edge
-pub tracks_taken : (g : Grid) (low v e : ℕ) (es : List ℕ) (best : Best) (s : Step)
-    → Tracks g low v es best → is_edge g.axes e ≡ true → IsAbove e es → edge_at g.axes v s ≡ Some e
-    → Tracks g low v (e ∷ es) (taken best (affinity g e) s)
-tracks_taken g low v e es best s h edge above is =
-    pick_best g low v e (e ∷ es) best s (nat_le best.needed (affinity g e)) is
-        (tracks_next g low e es (edge_at g.axes v best.step) best.needed (nat_le best.needed (affinity g e)) h edge above refl)
-
 no_edge_weak : (g : Grid) (low e : ℕ) → is_edge g.axes e ≡ false → is_strong g low e ≡ false
 no_edge_weak g low e is = ap (λ b. b && nat_le low (affinity g e)) is
 
@@ -91,10 +84,15 @@ skip_edge g low e es None needed h weak = (h.0 , first_answers g low e es h.1 fa
 skip_edge g low e es (Some b) needed h weak =
     (keeps g low e b es h.0 (λ strong ne. clash (is_strong g low e) strong weak) , h.1)
 
-pub tracks_absent : (g : Grid) (low v e : ℕ) (es : List ℕ) (best : Best) → Tracks g low v es best
-    → is_edge g.axes e ≡ false → Tracks g low v (e ∷ es) best
-tracks_absent g low v e es best h is =
-    skip_edge g low e es (edge_at g.axes v best.step) best.needed h (no_edge_weak g low e is)
+-- one number more: the test tells whether it is an edge
+pub tracks_better : (g : Grid) (low v e : ℕ) (es : List ℕ) (best : Best) (s : Step) (exists : Bool)
+    → Tracks g low v es best → is_edge g.axes e ≡ exists → IsAbove e es → edge_at g.axes v s ≡ Some e
+    → Tracks g low v (e ∷ es) (better best exists (affinity g e) s)
+tracks_better g low v e es best s true h edge above is =
+    pick_best g low v e (e ∷ es) best s (nat_le best.needed (affinity g e)) is
+        (tracks_next g low e es (edge_at g.axes v best.step) best.needed (nat_le best.needed (affinity g e)) h edge above refl)
+tracks_better g low v e es best s false h edge above is =
+    skip_edge g low e es (edge_at g.axes v best.step) best.needed h (no_edge_weak g low e edge)
 
 -- the six numbers, the last first
 abbrev pub seen_three : ℕ → List ℕ
@@ -135,49 +133,97 @@ tracks_all g low v best h = answer (edge_at g.axes v best.step) h
       strong = t.0.strong;
       first = λ f m s ne. t.0.first f (in_six g.axes v f m) s ne })
 
--- the six numbers are edges or not, by the place of v
-pub edge_back_x : (a : Axes) (v : ℕ) → v < voxel_count a → 0 < coordinate a v 0 → is_edge a (3 * v) ≡ true
-edge_back_x a v below some = subst (λ e. is_edge a e ≡ true) (add-zero (3 * v)) (back_edge a v 0 (lit< tt) below some)
+-- whether the six numbers are edges, by the place of v
+by_test : (t e : Bool) → (t ≡ true → e ≡ true) → (t ≡ false → e ≡ false) → e ≡ t
+by_test true e p q = p refl
+by_test false e p q = q refl
 
-pub no_edge_back_x : (a : Axes) (v : ℕ) → coordinate a v 0 ≡ 0 → is_edge a (3 * v) ≡ false
-no_edge_back_x a v none = subst (λ e. is_edge a e ≡ false) (add-zero (3 * v)) (no_back_edge a v 0 (lit< tt) none)
+zero_by_test : (x : ℕ) → nat_lt 0 x ≡ false → x ≡ 0
+zero_by_test x t = grind (arith, nat_tests)
+
+pub edge_back_at : (a : Axes) (v c : ℕ) → v < voxel_count a → c < 3
+    → is_edge a (3 * v + c) ≡ nat_lt 0 (coordinate a v c)
+edge_back_at a v c below lt = by_test (nat_lt 0 (coordinate a v c)) (is_edge a (3 * v + c))
+    (λ t. back_edge a v c lt below (ltb-true 0 (coordinate a v c) t))
+    (λ t. no_back_edge a v c lt (zero_by_test (coordinate a v c) t))
+
+pub edge_back_x : (a : Axes) (v : ℕ) → v < voxel_count a → is_edge a (3 * v) ≡ nat_lt 0 (coordinate a v 0)
+edge_back_x a v below = subst (λ e. is_edge a e ≡ nat_lt 0 (coordinate a v 0)) (add-zero (3 * v)) (edge_back_at a v 0 below (lit< tt))
 
 at_place : (a : Axes) (v : ℕ) (P : ℕ → Type 0)
     → P (voxel_at a (coordinate a v 0) (coordinate a v 1) (coordinate a v 2)) → P v
 at_place a v P h = subst P (voxel_at-place a v) h
 
-pub edge_on_x : (a : Axes) (v : ℕ) → IsWithinLimits a → v < voxel_count a → coordinate a v 0 + 1 < a.nx
-    → is_edge a (3 * (v + 1)) ≡ true
-edge_on_x a v limits below lt = subst (λ e. is_edge a e ≡ true) (add-zero (3 * (v + 1)))
-    (at_place a v (λ u. is_edge a (edge_on a u 0) ≡ true)
-        (on_edge_x a (coordinate a v 0) (coordinate a v 1) (coordinate a v 2) (place-voxel a v limits below) lt))
+pub edge_on_x : (a : Axes) (v : ℕ) → IsWithinLimits a → v < voxel_count a
+    → is_edge a (3 * (v + 1)) ≡ nat_lt (coordinate a v 0 + 1) a.nx
+edge_on_x a v limits below = by_test (nat_lt (coordinate a v 0 + 1) a.nx) (is_edge a (3 * (v + 1)))
+    (λ t. subst (λ e. is_edge a e ≡ true) (add-zero (3 * (v + 1)))
+        (at_place a v (λ u. is_edge a (edge_on a u 0) ≡ true)
+            (on_edge_x a (coordinate a v 0) (coordinate a v 1) (coordinate a v 2) (place-voxel a v limits below)
+                (ltb-true (coordinate a v 0 + 1) a.nx t))))
+    (λ t. subst (λ e. is_edge a e ≡ false) (add-zero (3 * (v + 1)))
+        (at_place a v (λ u. is_edge a (edge_on a u 0) ≡ false)
+            (no_on_edge_x a (coordinate a v 0) (coordinate a v 1) (coordinate a v 2) (place-voxel a v limits below)
+                (ltb-false (coordinate a v 0 + 1) a.nx t))))
 
-pub no_edge_on_x : (a : Axes) (v : ℕ) → IsWithinLimits a → v < voxel_count a → a.nx ≤ coordinate a v 0 + 1
-    → is_edge a (3 * (v + 1)) ≡ false
-no_edge_on_x a v limits below last = subst (λ e. is_edge a e ≡ false) (add-zero (3 * (v + 1)))
-    (at_place a v (λ u. is_edge a (edge_on a u 0) ≡ false)
-        (no_on_edge_x a (coordinate a v 0) (coordinate a v 1) (coordinate a v 2) (place-voxel a v limits below) last))
+pub edge_on_y : (a : Axes) (v : ℕ) → IsWithinLimits a → v < voxel_count a
+    → is_edge a (3 * (v + a.nx) + 1) ≡ nat_lt (coordinate a v 1 + 1) a.ny
+edge_on_y a v limits below = by_test (nat_lt (coordinate a v 1 + 1) a.ny) (is_edge a (3 * (v + a.nx) + 1))
+    (λ t. at_place a v (λ u. is_edge a (edge_on a u 1) ≡ true)
+        (on_edge_y a (coordinate a v 0) (coordinate a v 1) (coordinate a v 2) (place-voxel a v limits below)
+            (ltb-true (coordinate a v 1 + 1) a.ny t)))
+    (λ t. at_place a v (λ u. is_edge a (edge_on a u 1) ≡ false)
+        (no_on_edge_y a (coordinate a v 0) (coordinate a v 1) (coordinate a v 2) (place-voxel a v limits below)
+            (ltb-false (coordinate a v 1 + 1) a.ny t)))
 
-pub edge_on_y : (a : Axes) (v : ℕ) → IsWithinLimits a → v < voxel_count a → coordinate a v 1 + 1 < a.ny
-    → is_edge a (3 * (v + a.nx) + 1) ≡ true
-edge_on_y a v limits below lt = at_place a v (λ u. is_edge a (edge_on a u 1) ≡ true)
-    (on_edge_y a (coordinate a v 0) (coordinate a v 1) (coordinate a v 2) (place-voxel a v limits below) lt)
-
-pub no_edge_on_y : (a : Axes) (v : ℕ) → IsWithinLimits a → v < voxel_count a → a.ny ≤ coordinate a v 1 + 1
-    → is_edge a (3 * (v + a.nx) + 1) ≡ false
-no_edge_on_y a v limits below last = at_place a v (λ u. is_edge a (edge_on a u 1) ≡ false)
-    (no_on_edge_y a (coordinate a v 0) (coordinate a v 1) (coordinate a v 2) (place-voxel a v limits below) last)
-
-pub edge_on_z : (a : Axes) (v : ℕ) → IsWithinLimits a → v < voxel_count a → coordinate a v 2 + 1 < a.nz
-    → is_edge a (3 * (v + a.nx * a.ny) + 2) ≡ true
-edge_on_z a v limits below lt = at_place a v (λ u. is_edge a (edge_on a u 2) ≡ true)
-    (on_edge_z a (coordinate a v 0) (coordinate a v 1) (coordinate a v 2) (place-voxel a v limits below) lt)
-
-pub no_edge_on_z : (a : Axes) (v : ℕ) → IsWithinLimits a → v < voxel_count a → a.nz ≤ coordinate a v 2 + 1
-    → is_edge a (3 * (v + a.nx * a.ny) + 2) ≡ false
-no_edge_on_z a v limits below last = at_place a v (λ u. is_edge a (edge_on a u 2) ≡ false)
-    (no_on_edge_z a (coordinate a v 0) (coordinate a v 1) (coordinate a v 2) (place-voxel a v limits below) last)
+pub edge_on_z : (a : Axes) (v : ℕ) → IsWithinLimits a → v < voxel_count a
+    → is_edge a (3 * (v + a.nx * a.ny) + 2) ≡ nat_lt (coordinate a v 2 + 1) a.nz
+edge_on_z a v limits below = by_test (nat_lt (coordinate a v 2 + 1) a.nz) (is_edge a (3 * (v + a.nx * a.ny) + 2))
+    (λ t. at_place a v (λ u. is_edge a (edge_on a u 2) ≡ true)
+        (on_edge_z a (coordinate a v 0) (coordinate a v 1) (coordinate a v 2) (place-voxel a v limits below)
+            (ltb-true (coordinate a v 2 + 1) a.nz t)))
+    (λ t. at_place a v (λ u. is_edge a (edge_on a u 2) ≡ false)
+        (no_on_edge_z a (coordinate a v 0) (coordinate a v 1) (coordinate a v 2) (place-voxel a v limits below)
+            (ltb-false (coordinate a v 2 + 1) a.nz t)))
 
 -- the numbers of edges are below the count
-pub edge_below : (a : Axes) (e : ℕ) → is_edge a e ≡ true → e < edge_count a
-edge_below a e t = (edge_is a e t).numbered
+pub edge_below : (a : Axes) (e : ℕ) (t : Bool) → is_edge a e ≡ t → t ≡ true → e < edge_count a
+edge_below a e t is holds = (edge_is a e (is ∙ holds)).numbered
+
+pub layer-le : (a : Axes) → IsWithinLimits a → (a.nx ≤ a.nx * a.ny) × (a.nx * a.ny ≤ 2 ^ 28)
+layer-le a limits =
+    let some : 0 < a.ny = limits.some_y in
+    let deep : 0 < a.nz = limits.some_z in
+    (omega (arith, le-mul_of_pos_right a.nx some) ,
+     omega (arith, le-mul_of_pos_right (a.nx * a.ny) deep, limits.most_voxels))
+
+-- one after the other: after the sixth, the step is that of the best edge
+pub best_of_six : (g : Grid) (low v : ℕ) (b0 b1 b2 b3 b4 b5 b6 : Best)
+    → IsWithinLimits g.axes → v < voxel_count g.axes
+    → b0 ≡ record { needed = low; step = Stay }
+    → b1 ≡ better b0 (nat_lt 0 (coordinate g.axes v 0)) (affinity g (3 * v)) BackX
+    → b2 ≡ better b1 (nat_lt 0 (coordinate g.axes v 1)) (affinity g (3 * v + 1)) BackY
+    → b3 ≡ better b2 (nat_lt 0 (coordinate g.axes v 2)) (affinity g (3 * v + 2)) BackZ
+    → b4 ≡ better b3 (nat_lt (coordinate g.axes v 0 + 1) g.axes.nx) (affinity g (3 * (v + 1))) OnX
+    → b5 ≡ better b4 (nat_lt (coordinate g.axes v 1 + 1) g.axes.ny) (affinity g (3 * (v + g.axes.nx) + 1)) OnY
+    → b6 ≡ better b5 (nat_lt (coordinate g.axes v 2 + 1) g.axes.nz) (affinity g (3 * (v + g.axes.nx * g.axes.ny) + 2)) OnZ
+    → IsBestStep g low v b6.step
+best_of_six g low v b0 b1 b2 b3 b4 b5 b6 limits below e0 e1 e2 e3 e4 e5 e6 =
+    let a = g.axes in
+    let wide : (a.nx ≤ a.nx * a.ny) × (a.nx * a.ny ≤ 2 ^ 28) = layer-le a limits in
+    let some : 0 < a.nx = limits.some_x in
+    let t0 : Tracks g low v [] b0 = subst (λ b. Tracks g low v [] b) (sym e0) (tracks_none g low v (record { needed = low; step = Stay }) refl refl) in
+    let t1 = on_to b1 BackX (3 * v) [] b0 (nat_lt 0 (coordinate a v 0)) e1 t0 (edge_back_x a v below) tt refl in
+    let t2 = on_to b2 BackY (3 * v + 1) (3 * v ∷ []) b1 (nat_lt 0 (coordinate a v 1)) e2 t1 (edge_back_at a v 1 below (lit< tt)) (omega arith , tt) refl in
+    let t3 = on_to b3 BackZ (3 * v + 2) ((3 * v + 1) ∷ 3 * v ∷ []) b2 (nat_lt 0 (coordinate a v 2)) e3 t2 (edge_back_at a v 2 below (lit< tt)) (omega arith , (omega arith , tt)) refl in
+    let t4 = on_to b4 OnX (3 * (v + 1)) (seen_three v) b3 (nat_lt (coordinate a v 0 + 1) a.nx) e4 t3 (edge_on_x a v limits below) (omega arith , (omega arith , (omega arith , tt))) refl in
+    let t5 = on_to b5 OnY (3 * (v + a.nx) + 1) ((3 * (v + 1)) ∷ seen_three v) b4 (nat_lt (coordinate a v 1 + 1) a.ny) e5 t4 (edge_on_y a v limits below) (omega arith , (omega arith , (omega arith , (omega arith , tt)))) refl in
+    let t6 = on_to b6 OnZ (3 * (v + a.nx * a.ny) + 2) ((3 * (v + a.nx) + 1) ∷ (3 * (v + 1)) ∷ seen_three v) b5 (nat_lt (coordinate a v 2 + 1) a.nz) e6 t5 (edge_on_z a v limits below) (omega arith , (omega arith , (omega arith , (omega arith , (omega arith , tt))))) refl in
+    tracks_all g low v b6 t6
+  where
+    on_to : (after : Best) (s : Step) (e : ℕ) (es : List ℕ) (best : Best) (exists : Bool)
+        → after ≡ better best exists (affinity g e) s
+        → Tracks g low v es best → is_edge g.axes e ≡ exists → IsAbove e es → edge_at g.axes v s ≡ Some e
+        → Tracks g low v (e ∷ es) after
+    on_to after s e es best exists was h edge above is =
+        subst (λ b. Tracks g low v (e ∷ es) b) (sym was) (tracks_better g low v e es best s exists h edge above is)

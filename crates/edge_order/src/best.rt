@@ -2,7 +2,7 @@ ghost use Rattle.std.specs.Prelude.{◌≡◌, ◌<◌, ◌≤◌, ◌↔◌, Is
 ghost use Rattle.agglo_model.specs.Axes.{edge_count, is_edge, place_of, voxel_count};
 ghost use Rattle.agglo_model.specs.EdgeOrder.{EdgeBefore, HasNoBest, IsBest};
 ghost use Rattle.agglo_model.specs.Grid.{affinity};
-ghost use Rattle.edge_order.specs.Best.{taken};
+ghost use Rattle.edge_order.specs.Best.{better};
 ghost use Rattle.edge_order.specs.Steps.{IsBestStep};
 
 use crate::step::Step;
@@ -41,32 +41,17 @@ pub fn best_step(vol: &Volume, low: u8, v: u32, place: [u32; 3]) -> Step
     let dims = vol.dims();
     let row = dims.nx();
     let layer = row * dims.ny();
-    let mut best = Best {
-        needed: u16::from(low),
-        step: Step::Stay,
-    };
-    if x > 0 {
-        best = best.or(vol, 3 * v, Step::BackX);
-    }
-    if y > 0 {
-        best = best.or(vol, 3 * v + 1, Step::BackY);
-    }
-    if z > 0 {
-        best = best.or(vol, 3 * v + 2, Step::BackZ);
-    }
-    if x + 1 < dims.nx() {
-        best = best.or(vol, 3 * (v + 1), Step::OnX);
-    }
-    if y + 1 < dims.ny() {
-        best = best.or(vol, 3 * (v + row) + 1, Step::OnY);
-    }
-    if z + 1 < dims.nz() {
-        best = best.or(vol, 3 * (v + layer) + 2, Step::OnZ);
-    }
-    best.step
+    Best::none(low)
+        .or(vol, x > 0, 3 * v, Step::BackX)
+        .or(vol, y > 0, 3 * v + 1, Step::BackY)
+        .or(vol, z > 0, 3 * v + 2, Step::BackZ)
+        .or(vol, x + 1 < dims.nx(), 3 * (v + 1), Step::OnX)
+        .or(vol, y + 1 < dims.ny(), 3 * (v + row) + 1, Step::OnY)
+        .or(vol, z + 1 < dims.nz(), 3 * (v + layer) + 2, Step::OnZ)
+        .step
 }
 
-/// The best edge among some of a voxel, looked at in ascending order of number.
+/// The best of the edges of a voxel that were looked at, in ascending order of number.
 #[derive(Clone, Copy)]
 struct Best {
     /// The least byte with which a later edge is better.
@@ -75,11 +60,24 @@ struct Best {
 }
 
 impl Best {
-    /// The better of this one and edge `e`, the next in order of number.
-    fn or(self, vol: &Volume, e: u32, step: Step) -> Best
-        requires { e < edge_count vol.now.axes }
-        ensures { result ≡ taken self (affinity vol.now e) step }
+    /// No edge yet: the first is to have a byte of at least `low`.
+    fn none(low: u8) -> Best
+        ensures { result ≡ record { needed = low; step = Step.Stay } }
     {
+        Best {
+            needed: u16::from(low),
+            step: Step::Stay,
+        }
+    }
+
+    /// The better of this one and the edge of the next number, where there is an edge.
+    fn or(self, vol: &Volume, exists: bool, e: u32, step: Step) -> Best
+        requires { IsTrue exists → e < edge_count vol.now.axes }
+        ensures { result ≡ better self exists (affinity vol.now e) step }
+    {
+        if !exists {
+            return self;
+        }
         let byte = u16::from(vol.aff(e));
         if byte >= self.needed {
             Best {
