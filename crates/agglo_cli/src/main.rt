@@ -1,20 +1,41 @@
 //! The program: words, the top call, and a desk over the real world.
+//!
+//! It stands on all other crates. `top_call::agglo` is the program as a function over any desk, with
+//! all that is proved of it; `main` runs it over the real one.
 #![tactic(auto)]
 
 mod file_desk;
+mod input;
 mod job;
 mod note;
 mod output;
+mod refusal;
+mod top_call;
 mod words;
 
+use crate::file_desk::FileDesk;
+use crate::top_call::agglo;
+use std::alloc::Global;
+use std::env;
+use std::io;
 use std::process::ExitCode;
+use std::rt::Env;
 
+/// Runs the top call on the words after the program's name.
 fn main(rt: HostRuntime) -> ExitCode {
-    let words = Vec::new(rt.alloc());
     let alloc = rt.alloc();
-    let _desk = file_desk::FileDesk::new(rt, alloc);
-    match words::read_words(alloc, &words) {
-        Ok(_) => ExitCode::from(0),
-        Err(_) => ExitCode::from(1),
+    match program_words(&rt, alloc) {
+        Ok(words) => ExitCode::from(agglo(alloc, &words, &mut FileDesk::new(rt, alloc))),
+        Err(fault) if fault.kind() == io::ErrorKind::OutOfMemory => ExitCode::from(1),
+        Err(_) => ExitCode::from(2),
     }
+}
+
+/// The words after the program's name. An argument that is no UTF-8 is an error.
+fn program_words<R: Env + AllocGlobal>(rt: &R, alloc: Global) -> io::Result<Vec<String>> {
+    let mut words = Vec::new(alloc);
+    for word in env::args(rt)?.skip(1) {
+        words.push(word)?;
+    }
+    Ok(words)
 }

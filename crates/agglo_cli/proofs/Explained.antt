@@ -1,0 +1,197 @@
+-- Each status of the program has its cause: the clauses of the top call, from what its run did.
+use Rattle.std.proofs.Common.{◌≡◌, ◌≢◌, ℕ, ◌⊎◌, ◌↔◌, Bool, true, List, [], ◌∷◌, Option, Some, None, IsSome, IfSome, refl, sym, ap, subst, ◌∙◌, inl, inr}
+use Rattle.std.specs.Option.{option_map, option_and_then}
+use Rattle.agglo_model.specs.Count.{Rose}
+use Rattle.agglo_model.specs.Words.{BasinsSettings, SpellsBasins}
+use Rattle.agglo_model.specs.VolumeFile.{VolumeFlaw, volume_flaw}
+use Rattle.seg_io.specs.Desk.{DeskState, File, file_named}
+use Rattle.volume_file.specs.declared.fault.VolumeFault.{VolumeFault}
+use Rattle.volume_file.specs.Fault.{fault_of}
+use Rattle.agglo_cli.specs.declared.refusal.Refusal.{Refusal}
+use Rattle.agglo_cli.specs.declared.refusal.Refusal.TheVariants.{Memory, Words, Volume, Input, Output}
+use Rattle.agglo_cli.specs.Texts.{SpellNothing}
+use Rattle.agglo_cli.specs.Reading.{file_of, HasFile, OnlyInputChanges, MissesStay, ReadsFile, FindsFlaw, FailsToReadFile, LacksMemory}
+use Rattle.agglo_cli.specs.Writing.{Wrote, WritesAnswer, StopsWriting}
+use Rattle.agglo_cli.specs.Run.{FindsBasins, Finishes, StopsOnTheWay, NamesAFlawedFile, IsStatus}
+use Rattle.agglo_cli.specs.Refusal.{status_of, RefusesInput}
+use Rattle.agglo_cli.specs.Outcome.{RefusesRun, RefusesNamedInput, LacksMemoryAnywhere}
+use Rattle.agglo_cli.proofs.ReadFile.{only_input}
+
+-- all that the top call promises of a status
+pub record Explained (words : List (List ℕ)) (old new : DeskState) (status : ℕ) : Type 0 where
+  pub is_status : IsStatus status
+  pub done : status ≡ 0 → Finishes words old new
+  pub no_settings : (status ≡ 2) ↔ SpellNothing words
+  pub flawed : status ≡ 3 → NamesAFlawedFile words old
+  pub input : status ≡ 5 → Rose old.input_faults new.input_faults
+  pub output : status ≡ 6 → StopsOnTheWay words old new
+  pub exactly : NamesAFlawedFile words old
+      → IfSome old.files (λ _. (status ≡ 3) ⊎ ((status ≡ 1) ⊎ (status ≡ 5)))
+  pub quiet : status ≢ 0 → status ≢ 6 → OnlyInputChanges old new
+  pub misses : ((settings : BasinsSettings) → SpellsBasins words settings → HasFile old settings.volume)
+      → IfSome old.files (λ _. new.misses ≡ old.misses)
+
+-- words spell one volume at most
+same_volume : (words : List (List ℕ)) (a b : BasinsSettings) → SpellsBasins words a → SpellsBasins words b → a.volume ≡ b.volume
+same_volume words a b p q = cc (p.in_order, q.in_order)
+
+-- a claim that needs no file
+everywhere : (files : Option (List File)) (P : Type 0) → P → IfSome files (λ _. P)
+everywhere None P p = tt
+everywhere (Some fs) P p = p
+
+-- no file is both sound and flawed
+by_bytes : (o : Option (List ℕ)) → IsSome o → IfSome o (λ bytes. volume_flaw bytes ≡ None)
+    → IfSome o (λ bytes. IsSome (volume_flaw bytes)) → ⊥
+by_bytes None some sound flawed = cc some
+by_bytes (Some bytes) some sound flawed = cc (sound, subst (λ (o : Option VolumeFlaw). IsSome o) sound flawed)
+
+sound_or_flawed : (name : List ℕ) (files : Option (List File)) (P : Type 0) → IfSome files (λ fs. IsSome (file_named fs name))
+    → IfSome (option_and_then (λ fs. file_named fs name) files) (λ bytes. volume_flaw bytes ≡ None)
+    → IfSome (option_and_then (λ fs. file_named fs name) files) (λ bytes. IsSome (volume_flaw bytes))
+    → IfSome files (λ _. P)
+sound_or_flawed name None P found sound flawed = tt
+sound_or_flawed name (Some fs) P found sound flawed = absurd (by_bytes (file_named fs name) found sound flawed)
+
+-- once the volume was found sound, it is not flawed
+not_flawed : (words : List (List ℕ)) (s t : DeskState) (P : Type 0) → FindsBasins words s t → NamesAFlawedFile words s
+    → IfSome s.files (λ _. P)
+not_flawed words s t P f n =
+    let same : n.settings.volume ≡ f.settings.volume = same_volume words n.settings f.settings n.spelled f.spelled in
+    sound_or_flawed f.settings.volume s.files P f.read.found f.read.sound
+      (subst (λ (name : List ℕ). IfSome (file_of s name) (λ bytes. IsSome (volume_flaw bytes))) same n.flawed)
+
+mid_misses : (words : List (List ℕ)) (s t : DeskState) → FindsBasins words s t → t.misses ≡ s.misses
+mid_misses words s t f = ap (λ (z : DeskState). z.misses) f.read.after
+
+wrote_misses : (name bytes gained : List ℕ) (s t : DeskState) → Wrote name bytes gained s t → t.misses ≡ s.misses
+wrote_misses name bytes gained s t w = ap (λ (z : DeskState). z.misses) w.after
+
+pub finishes_explained : (words : List (List ℕ)) (s t : DeskState) → Finishes words s t → Explained words s t 0
+finishes_explained words s t f = record {
+  is_status = inl refl;
+  done = λ _. f;
+  no_settings = (λ e. absurd (cc e), λ none. absurd (none f.found.settings f.found.spelled));
+  flawed = λ e. absurd (cc e);
+  input = λ e. absurd (cc e);
+  output = λ e. absurd (cc e);
+  exactly = λ n. not_flawed words s f.mid _ f.found n;
+  quiet = λ no. absurd (no refl);
+  misses = λ _. everywhere s.files _ (wrote_misses _ _ _ f.mid t f.wrote.wrote ∙ mid_misses words s f.mid f.found);
+}
+
+stopped_misses : (name file note : List ℕ) (s t : DeskState) → StopsWriting name file note s t → t.misses ≡ s.misses
+stopped_misses name file note s t stopped = elim stopped.progress [
+    inl none ↦ ap (λ (z : DeskState). z.misses) none
+  | inr some ↦ elim some [
+      inl part ↦ wrote_misses _ _ _ s t part.2
+    | inr part ↦ wrote_misses _ _ _ s t part.2
+    ]
+  ]
+
+stops_explained : (words : List (List ℕ)) (s t : DeskState) → StopsOnTheWay words s t → Explained words s t 6
+stops_explained words s t f = record {
+  is_status = inr (inr (inr (inr (inr refl))));
+  done = λ e. absurd (cc e);
+  no_settings = (λ e. absurd (cc e), λ none. absurd (none f.found.settings f.found.spelled));
+  flawed = λ e. absurd (cc e);
+  input = λ e. absurd (cc e);
+  output = λ _. f;
+  exactly = λ n. not_flawed words s f.mid _ f.found n;
+  quiet = λ _ no. absurd (no refl);
+  misses = λ _. everywhere s.files _ (stopped_misses _ _ _ f.mid t f.stopped ∙ mid_misses words s f.mid f.found);
+}
+
+unchanged : (s t : DeskState) → t ≡ s → OnlyInputChanges s t
+unchanged s t e = only_input s t s.input_faults s.misses s.has_input s.input e
+
+memory_quiet : (name : List ℕ) (s t : DeskState) → (t ≡ s) ⊎ LacksMemory name s t → OnlyInputChanges s t
+memory_quiet name s t (inl e) = unchanged s t e
+memory_quiet name s t (inr l) = only_input s t s.input_faults s.misses true t.input l.after
+
+memory_misses : (name : List ℕ) (s t : DeskState) → (t ≡ s) ⊎ LacksMemory name s t → t.misses ≡ s.misses
+memory_misses name s t (inl e) = ap (λ (z : DeskState). z.misses) e
+memory_misses name s t (inr l) = ap (λ (z : DeskState). z.misses) l.after
+
+memory_explained : (words : List (List ℕ)) (s t : DeskState) → LacksMemoryAnywhere words s t → Explained words s t 1
+memory_explained words s t (settings , spelled , lacks) = record {
+  is_status = inr (inl refl);
+  done = λ e. absurd (cc e);
+  no_settings = (λ e. absurd (cc e), λ none. absurd (none settings spelled));
+  flawed = λ e. absurd (cc e);
+  input = λ e. absurd (cc e);
+  output = λ e. absurd (cc e);
+  exactly = λ _. everywhere s.files _ (inr (inl refl));
+  quiet = λ _ _. memory_quiet settings.volume s t lacks;
+  misses = λ _. everywhere s.files _ (memory_misses settings.volume s t lacks);
+}
+
+words_explained : (words : List (List ℕ)) (s t : DeskState) → SpellNothing words → t ≡ s → Explained words s t 2
+words_explained words s t none e = record {
+  is_status = inr (inr (inl refl));
+  done = λ e. absurd (cc e);
+  no_settings = (λ _. none, λ _. refl);
+  flawed = λ e. absurd (cc e);
+  input = λ e. absurd (cc e);
+  output = λ e. absurd (cc e);
+  exactly = λ n. absurd (none n.settings n.spelled);
+  quiet = λ _ _. unchanged s t e;
+  misses = λ _. everywhere s.files _ (ap (λ (z : DeskState). z.misses) e);
+}
+
+-- bytes whose flaw a fault tells of have a flaw
+has_flaw : (fault : VolumeFault) (flaw : Option VolumeFlaw) → option_map fault_of flaw ≡ Some fault → IsSome flaw
+has_flaw fault None e = cc e
+has_flaw fault (Some flaw) e = refl
+
+flawed_where_told : (fault : VolumeFault) (o : Option (List ℕ))
+    → IfSome o (λ bytes. option_map fault_of (volume_flaw bytes) ≡ Some fault) → IfSome o (λ bytes. IsSome (volume_flaw bytes))
+flawed_where_told fault None h = tt
+flawed_where_told fault (Some bytes) h = has_flaw fault (volume_flaw bytes) h
+
+volume_explained : (words : List (List ℕ)) (fault : VolumeFault) (s t : DeskState) → RefusesNamedInput words (Volume fault) s t
+    → Explained words s t 3
+volume_explained words fault s t f = record {
+  is_status = inr (inr (inr (inl refl)));
+  done = λ e. absurd (cc e);
+  no_settings = (λ e. absurd (cc e), λ none. absurd (none f.settings f.spelled));
+  flawed = λ _. record {
+    settings = f.settings;
+    spelled = f.spelled;
+    found = f.refused.found;
+    flawed = flawed_where_told fault (file_of s f.settings.volume) f.refused.flaw;
+  };
+  input = λ e. absurd (cc e);
+  output = λ e. absurd (cc e);
+  exactly = λ _. everywhere s.files _ (inl refl);
+  quiet = λ _ _. only_input s t s.input_faults s.misses true t.input f.refused.after;
+  misses = λ _. everywhere s.files _ (ap (λ (z : DeskState). z.misses) f.refused.after);
+}
+
+-- a file that is there is no miss
+found_stays : (name : List ℕ) (files : Option (List File)) (old new : ℕ)
+    → IfSome files (λ fs. IsSome (file_named fs name)) → IfSome files (λ fs. IsSome (file_named fs name) → new ≡ old)
+    → IfSome files (λ _. new ≡ old)
+found_stays name None old new found stays = tt
+found_stays name (Some fs) old new found stays = stays found
+
+input_explained : (words : List (List ℕ)) (s t : DeskState) → RefusesNamedInput words Input s t → Explained words s t 5
+input_explained words s t f = record {
+  is_status = inr (inr (inr (inr (inl refl))));
+  done = λ e. absurd (cc e);
+  no_settings = (λ e. absurd (cc e), λ none. absurd (none f.settings f.spelled));
+  flawed = λ e. absurd (cc e);
+  input = λ _. f.refused.fault;
+  output = λ e. absurd (cc e);
+  exactly = λ _. everywhere s.files _ (inr (inr refl));
+  quiet = λ _ _. f.refused.after;
+  misses = λ all. found_stays f.settings.volume s.files s.misses t.misses (all f.settings f.spelled) f.refused.misses;
+}
+
+pub refusal_explained : (words : List (List ℕ)) (refusal : Refusal) (s t : DeskState) → RefusesRun words refusal s t
+    → Explained words s t (status_of refusal)
+refusal_explained words Memory s t r = memory_explained words s t r
+refusal_explained words Words s t r = words_explained words s t r.0 r.1
+refusal_explained words (Volume fault) s t r = volume_explained words fault s t r
+refusal_explained words Input s t r = input_explained words s t r
+refusal_explained words Output s t r = stops_explained words s t r
