@@ -18,3 +18,4 @@ pub mod Falling
 pub mod MutualRuns
 pub mod FirstExists
 pub mod SortedMerges
+pub mod LawfulMerges

@@ -7,10 +7,10 @@ pub mod PairOrder
 pub mod Contacts
 pub mod Greedy
 pub mod MeanLaws
-pub mod MergeLaws
 pub mod VolumeFile
 pub mod LabelFile
 pub mod MergeTree
+pub mod MergeLaws
 pub mod Note
 pub mod Report
 pub mod Words

@@ -1,10 +1,12 @@
 -- What merging is like over whole runs: the order of reciprocal merges doesn't matter.
-use Rattle.std.specs.Prelude.{◌≡◌, ◌≢◌, ℕ, ◌⊎◌, List, length, IsPermutation}
+use Rattle.std.specs.Prelude.{◌≡◌, ◌≢◌, ℕ, ◌<◌, ◌≤◌, ◌⊎◌, List, length, All, IsPermutation}
 use Rattle.std.specs.List.{AllAdjacentBelow}
+use Rattle.agglo_model.specs.Axes.{voxel_count}
 use Rattle.agglo_model.specs.Grid.{Grid}
 use Rattle.agglo_model.specs.PairOrder.{Threshold, Before}
 use Rattle.agglo_model.specs.Contacts.{between, renamed}
 use Rattle.agglo_model.specs.Greedy.{Merge, IsMutual, IsMutualRun, IsGreedyRun, after_merges}
+use Rattle.agglo_model.specs.MergeTree.{AreLawful}
 
 -- Two reciprocal pairs share no name. After the merge of a and b the pair of c and d is still
 -- reciprocal, with the same contact, and the two merges give the same labels in either order.
@@ -44,3 +46,10 @@ abbrev pub SortedIsGreedy : Type 0
 SortedIsGreedy = (g : Grid) (t : Threshold) (labels : List ℕ) (merges sorted : List Merge)
     → IsMutualRun g t labels merges → IsPermutation merges sorted → AreFalling sorted
     → IsGreedyRun g t labels sorted × (after_merges labels merges ≡ after_merges labels sorted)
+
+-- The merges of greedy agglomeration are a lawful list, where labels are no greater than the number of
+-- voxels and affinities are bytes.
+abbrev pub GreedyIsLawful : Type 0
+GreedyIsLawful = (g : Grid) (t : Threshold) (labels : List ℕ) (merges : List Merge)
+    → 0 < voxel_count g.axes → All (λ b. b ≤ 255) g.bytes → All (λ x. x ≤ voxel_count g.axes) labels
+    → IsGreedyRun g t labels merges → AreLawful g.axes t merges

@@ -1,7 +1,7 @@
 //! Laws of whole runs of merges. Each function has no body: its contract is the law, over the
 //! definitions alone.
 
-ghost use Rattle.agglo_model.specs.MergeLaws.{AnyOrder, Diamond, GreedyFalls, SortedIsGreedy};
+ghost use Rattle.agglo_model.specs.MergeLaws.{AnyOrder, Diamond, GreedyFalls, GreedyIsLawful, SortedIsGreedy};
 
 /// Two different reciprocal pairs share no name. Each stays reciprocal after the merge of the other,
 /// with the same contact, and the two merges may be made in either order.
@@ -25,4 +25,10 @@ pub fn any_order_is_greedy()
 /// The merges of a run in whatever order, put into pair order, are those of greedy agglomeration.
 pub fn sorted_merges_are_greedy()
     ensures { SortedIsGreedy }
+{}
+
+/// The merges of greedy agglomeration can be written to a tree file: they are a lawful list.
+#[tactic(auto, using(crate::proofs::LawfulMerges::greedy_is_lawful))]
+pub fn greedy_merges_are_lawful()
+    ensures { GreedyIsLawful }
 {}
