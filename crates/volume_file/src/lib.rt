@@ -11,5 +11,5 @@ mod volume;
 
 pub use body::read_body;
 pub use fault::VolumeFault;
-pub use reading::read_head;
+pub use reading::{read_head, read_volume};
 pub use volume::{Head, Volume};
