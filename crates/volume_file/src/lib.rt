@@ -4,10 +4,12 @@
 //! stands on it.
 #![tactic(auto)]
 
+mod body;
 mod fault;
 mod reading;
 mod volume;
 
+pub use body::read_body;
 pub use fault::VolumeFault;
-pub use reading::read_head;
+pub use reading::{read_head, read_volume};
 pub use volume::{Head, Volume};

@@ -3,13 +3,15 @@ ghost use Rattle.std.specs.List.{list_all};
 ghost use Rattle.std.specs.Option.{option_map};
 ghost use Rattle.agglo_model.specs.VolumeFile.{u32_at, header_flaw, header_axes};
 ghost use Rattle.volume_file.specs.Fault.{fault_of};
-ghost use Rattle.volume_file.specs.Reading.{ReadsHead, FailsToReadHead};
+ghost use Rattle.volume_file.specs.Reading.{ReadsHead, FailsToReadHead, ReadsVolume, FailsToReadVolume};
 
+use crate::body::read_body;
 use crate::fault::VolumeFault;
-use crate::volume::Head;
+use crate::volume::{Head, Volume};
 use byteorder::{ByteOrder, LittleEndian};
 use seg_base::Dims;
 use seg_io::{Desk, fill};
+use std::alloc::Global;
 
 /// The text that a volume file begins with.
 const MAGIC: &[u8] = b"AFFVOL01";
@@ -30,6 +32,17 @@ pub fn read_head<D: Desk>(desk: &mut D) -> Result<Head, VolumeFault>
     let mut header = [0; HEADER_LENGTH];
     let got = fill(desk, &mut header)?;
     head_of(&header[..got])
+}
+
+/// Reads a volume file to its end: the header, then the body.
+pub fn read_volume<D: Desk>(alloc: Global, desk: &mut D) -> Result<Volume, VolumeFault>
+    requires { (D.state desk.old).has_input ≡ true }
+    ensures { MatchResult result
+        (λ volume. ReadsVolume volume (D.state desk.old) (D.state desk.new))
+        (λ fault. FailsToReadVolume fault (D.state desk.old) (D.state desk.new)) }
+{
+    let head = read_head(desk)?;
+    read_body(alloc, desk, head)
 }
 
 /// What the bytes of a header say.
