@@ -44,7 +44,7 @@ everywhere (Some fs) P p = p
 by_bytes : (o : Option (List ℕ)) → IsSome o → IfSome o (λ bytes. volume_flaw bytes ≡ None)
     → IfSome o (λ bytes. IsSome (volume_flaw bytes)) → ⊥
 by_bytes None some sound flawed = cc some
-by_bytes (Some bytes) some sound flawed = cc (sound, subst (λ (o : Option VolumeFlaw). IsSome o) sound flawed)
+by_bytes (Some bytes) some sound flawed = cc (subst (λ (o : Option VolumeFlaw). IsSome o) sound flawed)
 
 sound_or_flawed : (name : List ℕ) (files : Option (List File)) (P : Type 0) → IfSome files (λ fs. IsSome (file_named fs name))
     → IfSome (option_and_then (λ fs. file_named fs name) files) (λ bytes. volume_flaw bytes ≡ None)

@@ -54,7 +54,7 @@ pub lacks_memory : (name : List ℕ) (s t u : DeskState) → OpensInput name s t
 lacks_memory name s t u o r = record { found = o.found; after = input_alone s t u _ o.after r.after }
 
 -- a fault of the device, or no such file
-only_input : (s u : DeskState) (faults misses : ℕ) (has : Bool) (input : Option (List ℕ))
+pub only_input : (s u : DeskState) (faults misses : ℕ) (has : Bool) (input : Option (List ℕ))
     → u ≡ record s { input_faults = faults; misses = misses; has_input = has; input = input } → OnlyInputChanges s u
 only_input s u faults misses has input e =
     let F : DeskState → DeskState = λ (z : DeskState). record s { input_faults = z.input_faults; misses = z.misses; has_input = z.has_input; input = z.input } in

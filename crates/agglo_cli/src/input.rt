@@ -5,20 +5,7 @@ ghost use Rattle.agglo_cli.specs.Refusal.{RefusesInput};
 use crate::refusal::Refusal;
 use seg_io::Desk;
 use std::alloc::Global;
-use volume_file::{Volume, VolumeFault};
-
-// STUB
-ghost use Rattle.volume_file.specs.Reading.{ReadsVolume, FailsToReadVolume};
-ghost use Rattle.std.specs.Prelude.{◌≡◌, true};
-pub fn read_volume<D: Desk>(alloc: Global, desk: &mut D) -> Result<Volume, VolumeFault>
-    requires { (D.state desk.old).has_input ≡ true }
-    ensures { MatchResult result
-        (λ volume. ReadsVolume volume (D.state desk.old) (D.state desk.new))
-        (λ fault. FailsToReadVolume fault (D.state desk.old) (D.state desk.new)) }
-{
-    Err(VolumeFault::Memory)
-}
-
+use volume_file::{Volume, VolumeFault, read_volume};
 
 /// Reads the volume in the file of this name, to its end.
 pub fn read_input<D: Desk>(alloc: Global, desk: &mut D, name: &str) -> Result<Volume, Refusal>

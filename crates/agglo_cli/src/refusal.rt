@@ -1,6 +1,3 @@
-ghost use Rattle.std.specs.Prelude.{◌≡◌};
-ghost use Rattle.agglo_cli.specs.Refusal.{status_of};
-
 use agglo_model::Memory;
 use volume_file::VolumeFault;
 
@@ -15,6 +12,9 @@ pub enum Refusal {
 }
 
 impl Refusal {
+    ghost use Rattle.std.specs.Prelude.{◌≡◌};
+    ghost use Rattle.agglo_cli.specs.Refusal.{status_of};
+
     /// The status that the program ends with.
     pub fn status(&self) -> u8
         ensures { result ≡ status_of self.now }
@@ -30,7 +30,10 @@ impl Refusal {
 }
 
 impl From<Memory> for Refusal {
-    ghost from_gives = { λ _ refusal. refusal ≡ Refusal.Memory };
+    ghost use Rattle.std.specs.Prelude.{◌≡◌};
+    ghost use Rattle.agglo_cli.specs.declared.refusal.Refusal.TheVariants as refusals;
+
+    ghost from_gives = { λ _ refusal. refusal ≡ refusals.Memory };
 
     fn from(_memory: Memory) -> Refusal {
         Refusal::Memory
