@@ -12,9 +12,9 @@ use Rattle.agglo_cli.specs.declared.refusal.Refusal.TheVariants.{Memory, Words, 
 use Rattle.agglo_cli.specs.Texts.{SpellNothing}
 use Rattle.agglo_cli.specs.Reading.{file_of, HasFile, OnlyInputChanges, MissesStay, ReadsFile, FindsFlaw, FailsToReadFile, LacksMemory}
 use Rattle.agglo_cli.specs.Writing.{Wrote, WritesAnswer, StopsWriting}
-use Rattle.agglo_cli.specs.Run.{FindsBasins, Finishes, StopsOnTheWay, NamesAFlawedFile, IsStatus}
+use Rattle.agglo_cli.specs.Run.{FindsBasins, FinishesBasins, Finishes, StopsBasins, StopsOnTheWay, NamesAFlawedFile, IsStatus}
 use Rattle.agglo_cli.specs.Refusal.{status_of, RefusesInput}
-use Rattle.agglo_cli.specs.Outcome.{RefusesRun, RefusesNamedInput, LacksMemoryAnywhere}
+use Rattle.agglo_cli.specs.Outcome.{RefusesRun, RefusesSettings, LacksMemoryForWords}
 use Rattle.agglo_cli.proofs.ReadFile.{only_input}
 
 -- all that the top call promises of a status
@@ -54,15 +54,15 @@ sound_or_flawed name None P found sound flawed = tt
 sound_or_flawed name (Some fs) P found sound flawed = absurd (by_bytes (file_named fs name) found sound flawed)
 
 -- once the volume was found sound, it is not flawed
-not_flawed : (words : List (List ℕ)) (s t : DeskState) (P : Type 0) → FindsBasins words s t → NamesAFlawedFile words s
-    → IfSome s.files (λ _. P)
-not_flawed words s t P f n =
-    let same : n.settings.volume ≡ f.settings.volume = same_volume words n.settings f.settings n.spelled f.spelled in
-    sound_or_flawed f.settings.volume s.files P f.read.found f.read.sound
+not_flawed : (words : List (List ℕ)) (settings : BasinsSettings) (s t : DeskState) (P : Type 0) → SpellsBasins words settings
+    → FindsBasins settings s t → NamesAFlawedFile words s → IfSome s.files (λ _. P)
+not_flawed words settings s t P spelled f n =
+    let same : n.settings.volume ≡ settings.volume = same_volume words n.settings settings n.spelled spelled in
+    sound_or_flawed settings.volume s.files P f.read.found f.read.sound
       (subst (λ (name : List ℕ). IfSome (file_of s name) (λ bytes. IsSome (volume_flaw bytes))) same n.flawed)
 
-mid_misses : (words : List (List ℕ)) (s t : DeskState) → FindsBasins words s t → t.misses ≡ s.misses
-mid_misses words s t f = ap (λ (z : DeskState). z.misses) f.read.after
+mid_misses : (settings : BasinsSettings) (s t : DeskState) → FindsBasins settings s t → t.misses ≡ s.misses
+mid_misses settings s t f = ap (λ (z : DeskState). z.misses) f.read.after
 
 wrote_misses : (name bytes gained : List ℕ) (s t : DeskState) → Wrote name bytes gained s t → t.misses ≡ s.misses
 wrote_misses name bytes gained s t w = ap (λ (z : DeskState). z.misses) w.after
@@ -71,13 +71,14 @@ pub finishes_explained : (words : List (List ℕ)) (s t : DeskState) → Finishe
 finishes_explained words s t f = record {
   is_status = inl refl;
   done = λ _. f;
-  no_settings = (λ e. absurd (cc e), λ none. absurd (none f.found.settings f.found.spelled));
+  no_settings = (λ e. absurd (cc e), λ none. absurd (none f.settings f.spelled));
   flawed = λ e. absurd (cc e);
   input = λ e. absurd (cc e);
   output = λ e. absurd (cc e);
-  exactly = λ n. not_flawed words s f.mid _ f.found n;
+  exactly = λ n. not_flawed words f.settings s f.finished.mid _ f.spelled f.finished.found n;
   quiet = λ no. absurd (no refl);
-  misses = λ _. everywhere s.files _ (wrote_misses _ _ _ f.mid t f.wrote.wrote ∙ mid_misses words s f.mid f.found);
+  misses = λ _. everywhere s.files _
+      (wrote_misses _ _ _ f.finished.mid t f.finished.wrote.wrote ∙ mid_misses f.settings s f.finished.mid f.finished.found);
 }
 
 stopped_misses : (name file note : List ℕ) (s t : DeskState) → StopsWriting name file note s t → t.misses ≡ s.misses
@@ -93,28 +94,22 @@ stops_explained : (words : List (List ℕ)) (s t : DeskState) → StopsOnTheWay 
 stops_explained words s t f = record {
   is_status = inr (inr (inr (inr (inr refl))));
   done = λ e. absurd (cc e);
-  no_settings = (λ e. absurd (cc e), λ none. absurd (none f.found.settings f.found.spelled));
+  no_settings = (λ e. absurd (cc e), λ none. absurd (none f.settings f.spelled));
   flawed = λ e. absurd (cc e);
   input = λ e. absurd (cc e);
   output = λ _. f;
-  exactly = λ n. not_flawed words s f.mid _ f.found n;
+  exactly = λ n. not_flawed words f.settings s f.stopped.mid _ f.spelled f.stopped.found n;
   quiet = λ _ no. absurd (no refl);
-  misses = λ _. everywhere s.files _ (stopped_misses _ _ _ f.mid t f.stopped ∙ mid_misses words s f.mid f.found);
+  misses = λ _. everywhere s.files _
+      (stopped_misses _ _ _ f.stopped.mid t f.stopped.stopped ∙ mid_misses f.settings s f.stopped.mid f.stopped.found);
 }
 
 unchanged : (s t : DeskState) → t ≡ s → OnlyInputChanges s t
 unchanged s t e = only_input s t s.input_faults s.misses s.has_input s.input e
 
-memory_quiet : (name : List ℕ) (s t : DeskState) → (t ≡ s) ⊎ LacksMemory name s t → OnlyInputChanges s t
-memory_quiet name s t (inl e) = unchanged s t e
-memory_quiet name s t (inr l) = only_input s t s.input_faults s.misses true t.input l.after
-
-memory_misses : (name : List ℕ) (s t : DeskState) → (t ≡ s) ⊎ LacksMemory name s t → t.misses ≡ s.misses
-memory_misses name s t (inl e) = ap (λ (z : DeskState). z.misses) e
-memory_misses name s t (inr l) = ap (λ (z : DeskState). z.misses) l.after
-
-memory_explained : (words : List (List ℕ)) (s t : DeskState) → LacksMemoryAnywhere words s t → Explained words s t 1
-memory_explained words s t (settings , spelled , lacks) = record {
+memory_explained : (words : List (List ℕ)) (settings : BasinsSettings) (s t : DeskState) → SpellsBasins words settings
+    → OnlyInputChanges s t → t.misses ≡ s.misses → Explained words s t 1
+memory_explained words settings s t spelled after misses = record {
   is_status = inr (inl refl);
   done = λ e. absurd (cc e);
   no_settings = (λ e. absurd (cc e), λ none. absurd (none settings spelled));
@@ -122,9 +117,16 @@ memory_explained words s t (settings , spelled , lacks) = record {
   input = λ e. absurd (cc e);
   output = λ e. absurd (cc e);
   exactly = λ _. everywhere s.files _ (inr (inl refl));
-  quiet = λ _ _. memory_quiet settings.volume s t lacks;
-  misses = λ _. everywhere s.files _ (memory_misses settings.volume s t lacks);
+  quiet = λ _ _. after;
+  misses = λ _. everywhere s.files _ misses;
 }
+
+any_memory_explained : (words : List (List ℕ)) (s t : DeskState) → LacksMemoryForWords words s t ⊎ RefusesSettings words Memory s t
+    → Explained words s t 1
+any_memory_explained words s t (inl f) =
+    memory_explained words f.settings s t f.spelled (unchanged s t f.after) (ap (λ (z : DeskState). z.misses) f.after)
+any_memory_explained words s t (inr f) = memory_explained words f.settings s t f.spelled
+    (only_input s t s.input_faults s.misses true t.input f.refused.after) (ap (λ (z : DeskState). z.misses) f.refused.after)
 
 words_explained : (words : List (List ℕ)) (s t : DeskState) → SpellNothing words → t ≡ s → Explained words s t 2
 words_explained words s t none e = record {
@@ -149,7 +151,7 @@ flawed_where_told : (fault : VolumeFault) (o : Option (List ℕ))
 flawed_where_told fault None h = tt
 flawed_where_told fault (Some bytes) h = has_flaw fault (volume_flaw bytes) h
 
-volume_explained : (words : List (List ℕ)) (fault : VolumeFault) (s t : DeskState) → RefusesNamedInput words (Volume fault) s t
+volume_explained : (words : List (List ℕ)) (fault : VolumeFault) (s t : DeskState) → RefusesSettings words (Volume fault) s t
     → Explained words s t 3
 volume_explained words fault s t f = record {
   is_status = inr (inr (inr (inl refl)));
@@ -175,7 +177,7 @@ found_stays : (name : List ℕ) (files : Option (List File)) (old new : ℕ)
 found_stays name None old new found stays = tt
 found_stays name (Some fs) old new found stays = stays found
 
-input_explained : (words : List (List ℕ)) (s t : DeskState) → RefusesNamedInput words Input s t → Explained words s t 5
+input_explained : (words : List (List ℕ)) (s t : DeskState) → RefusesSettings words Input s t → Explained words s t 5
 input_explained words s t f = record {
   is_status = inr (inr (inr (inr (inl refl))));
   done = λ e. absurd (cc e);
@@ -190,8 +192,9 @@ input_explained words s t f = record {
 
 pub refusal_explained : (words : List (List ℕ)) (refusal : Refusal) (s t : DeskState) → RefusesRun words refusal s t
     → Explained words s t (status_of refusal)
-refusal_explained words Memory s t r = memory_explained words s t r
+refusal_explained words Memory s t r = any_memory_explained words s t r
 refusal_explained words Words s t r = words_explained words s t r.0 r.1
 refusal_explained words (Volume fault) s t r = volume_explained words fault s t r
 refusal_explained words Input s t r = input_explained words s t r
-refusal_explained words Output s t r = stops_explained words s t r
+refusal_explained words Output s t r =
+    stops_explained words s t (record { settings = r.settings; spelled = r.spelled; stopped = r.refused })

@@ -3,10 +3,7 @@ use Rattle.std.specs.Prelude.{ℕ, List}
 use Rattle.seg_io.specs.Desk.{DeskState}
 use Rattle.agglo_cli.specs.declared.refusal.Refusal.{Refusal}
 use Rattle.agglo_cli.specs.declared.refusal.Refusal.TheVariants.{Memory, Words, Volume, Input, Output}
-use Rattle.agglo_cli.specs.Reading.{LacksMemory, FindsFlaw, FailsToReadFile, OnlyInputChanges}
-use Rattle.agglo_cli.specs.Texts.{SpellNothing}
-use Rattle.agglo_model.specs.Words.{BasinsSettings, SpellsBasins}
-use Rattle.agglo_cli.specs.Run.{StopsOnTheWay}
+use Rattle.agglo_cli.specs.Reading.{LacksMemory, FindsFlaw, FailsToReadFile}
 
 -- the status of each
 abbrev pub status_of : Refusal → ℕ

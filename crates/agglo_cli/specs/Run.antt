@@ -18,29 +18,38 @@ pub record IsFresh (s : DeskState) : Type 0 where
   pub tree : CanOpen Tree s
   pub volume : CanOpen Volume s
 
--- The words are settings of `basins`, the volume that they name was read to its end, and these are
--- its basin labels.
-pub record FindsBasins (words : List (List ℕ)) (old mid : DeskState) : Type 0 where
-  pub settings : BasinsSettings
-  pub spelled : SpellsBasins words settings
+-- The volume that the settings name was read to its end, and these are its basin labels.
+pub record FindsBasins (settings : BasinsSettings) (old mid : DeskState) : Type 0 where
   pub volume : Grid
   pub read : ReadsFile settings.volume volume old mid
   pub labels : List ℕ
   pub basins : AreBasins volume settings.low labels
 
 -- The label file of the basins, and the note on them, were written whole.
-pub record Finishes (words : List (List ℕ)) (old new : DeskState) : Type 0 where
+pub record FinishesBasins (settings : BasinsSettings) (old new : DeskState) : Type 0 where
   pub mid : DeskState
-  pub found : FindsBasins words old mid
-  pub wrote : WritesAnswer found.settings.labels (label_file found.volume.axes found.labels)
+  pub found : FindsBasins settings old mid
+  pub wrote : WritesAnswer settings.labels (label_file found.volume.axes found.labels)
       (basins_note found.labels) mid new
 
 -- The basins were found, and writing them failed on the way.
-pub record StopsOnTheWay (words : List (List ℕ)) (old new : DeskState) : Type 0 where
+pub record StopsBasins (settings : BasinsSettings) (old new : DeskState) : Type 0 where
   pub mid : DeskState
-  pub found : FindsBasins words old mid
-  pub stopped : StopsWriting found.settings.labels (label_file found.volume.axes found.labels)
+  pub found : FindsBasins settings old mid
+  pub stopped : StopsWriting settings.labels (label_file found.volume.axes found.labels)
       (basins_note found.labels) mid new
+
+-- The words are settings of `basins`, and their answer was written whole.
+pub record Finishes (words : List (List ℕ)) (old new : DeskState) : Type 0 where
+  pub settings : BasinsSettings
+  pub spelled : SpellsBasins words settings
+  pub finished : FinishesBasins settings old new
+
+-- The words are settings of `basins`, and writing their answer failed on the way.
+pub record StopsOnTheWay (words : List (List ℕ)) (old new : DeskState) : Type 0 where
+  pub settings : BasinsSettings
+  pub spelled : SpellsBasins words settings
+  pub stopped : StopsBasins settings old new
 
 -- The words are settings, and the file that they name has a flaw, where the desk tells it.
 pub record NamesAFlawedFile (words : List (List ℕ)) (s : DeskState) : Type 0 where
@@ -48,12 +57,6 @@ pub record NamesAFlawedFile (words : List (List ℕ)) (s : DeskState) : Type 0 w
   pub spelled : SpellsBasins words settings
   pub found : HasFile s settings.volume
   pub flawed : IfSome (file_of s settings.volume) (λ bytes. IsSome (volume_flaw bytes))
-
--- The words are settings, and the desk has the file that they name and tells it.
-pub record NamesAFile (words : List (List ℕ)) (s : DeskState) (bytes : List ℕ) : Type 0 where
-  pub settings : BasinsSettings
-  pub spelled : SpellsBasins words settings
-  pub file : file_of s settings.volume ≡ Some bytes
 
 -- one of the statuses of the program
 abbrev pub IsStatus : ℕ → Type 0

@@ -4,8 +4,8 @@ ghost use Rattle.agglo_model.specs.VolumeFile.{volume_flaw};
 ghost use Rattle.agglo_model.specs.Words.{BasinsSettings, SpellsBasins};
 ghost use Rattle.agglo_cli.specs.Texts.{texts, SpellNothing};
 ghost use Rattle.agglo_cli.specs.Reading.{HasFile, OnlyInputChanges};
-ghost use Rattle.agglo_cli.specs.Run.{IsFresh, Finishes, StopsOnTheWay, NamesAFlawedFile, NamesAFile, IsStatus};
-ghost use Rattle.agglo_cli.specs.Outcome.{RefusesRun};
+ghost use Rattle.agglo_cli.specs.Run.{IsFresh, FinishesBasins, Finishes, StopsOnTheWay, NamesAFlawedFile, IsStatus};
+ghost use Rattle.agglo_cli.specs.Outcome.{RefusesBasins, RefusesRun};
 
 use crate::input::read_input;
 use crate::job::{Job, WordsFault};
@@ -55,27 +55,41 @@ pub fn agglo<D: Desk>(alloc: Global, words: &[String], desk: &mut D) -> u8
     }
 }
 
-/// The run itself: words, input, basins, output.
+/// The run itself: the words, and what they ask for.
 fn run<D: Desk>(alloc: Global, words: &[String], desk: &mut D) -> Result<(), Refusal>
     requires { IsFresh (D.state desk.old) }
     ensures { MatchResult result
         (λ _. Finishes (texts words.now) (D.state desk.old) (D.state desk.new))
         (λ refusal. RefusesRun (texts words.now) refusal (D.state desk.old) (D.state desk.new)) }
 {
-    let job = match read_words(alloc, words) {
-        Ok(job) => job,
-        Err(WordsFault::NoSettings) => return Err(Refusal::Words),
-        Err(WordsFault::Memory) => return Err(Refusal::Memory),
-    };
-    let Job::Basins {
-        volume,
-        labels,
-        low,
-    } = job;
-    let volume = read_input(alloc, desk, volume.as_str())?;
+    match read_words(alloc, words) {
+        Ok(Job::Basins {
+            volume,
+            labels,
+            low,
+        }) => run_basins(alloc, desk, volume.as_str(), labels.as_str(), low),
+        Err(WordsFault::NoSettings) => Err(Refusal::Words),
+        Err(WordsFault::Memory) => Err(Refusal::Memory),
+    }
+}
+
+/// Reads the volume, finds its basins, and writes their labels.
+fn run_basins<D: Desk>(
+    alloc: Global,
+    desk: &mut D,
+    volume: &str,
+    labels: &str,
+    low: u8,
+) -> Result<(), Refusal>
+    requires { IsFresh (D.state desk.old) }
+    ensures { MatchResult result
+        (λ _. FinishesBasins (record { volume = volume.now; labels = labels.now; low = low }) (D.state desk.old) (D.state desk.new))
+        (λ refusal. RefusesBasins (record { volume = volume.now; labels = labels.now; low = low }) refusal (D.state desk.old) (D.state desk.new)) }
+{
+    let volume = read_input(alloc, desk, volume)?;
     let basins = whole_basins(alloc, &volume, low)?;
     let note = basins_note(alloc, &basins)?;
-    match write_basins(desk, labels.as_str(), &basins, note.as_str()) {
+    match write_basins(desk, labels, &basins, note.as_str()) {
         Ok(()) => Ok(()),
         Err(_) => Err(Refusal::Output),
     }
