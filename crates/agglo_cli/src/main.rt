@@ -10,6 +10,8 @@ mod job;
 mod note;
 mod output;
 mod refusal;
+#[cfg(test)]
+mod tests;
 mod top_call;
 mod words;
 
