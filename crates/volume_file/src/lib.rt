@@ -7,6 +7,8 @@
 mod body;
 mod fault;
 mod reading;
+#[cfg(test)]
+mod tests;
 mod volume;
 
 pub use body::read_body;
