@@ -68,7 +68,7 @@ label_across g low labels are v w e b (inr (l, h)) =
     sym (subst (λ z. label_of labels z ≡ label_of labels v) l
     (subst (λ z. label_of labels (lower_end g.axes e) ≡ label_of labels z) h (are.along v e b)))
 
-label_at_root : (g : Grid) (low : ℕ) (labels : List ℕ) → AreBasins g low labels
+pub label_at_root : (g : Grid) (low : ℕ) (labels : List ℕ) → AreBasins g low labels
     → (v w e : ℕ) → AreEnds g.axes e v w → IsBest g low v e → IsBest g low w e
     → label_of labels v ≡ lower_end g.axes e + 1
 label_at_root g low labels are v w e ends b c = side ends
@@ -84,7 +84,7 @@ label_at_root g low labels are v w e ends b c = side ends
     side (inr (l, h)) =
         subst (λ z. label_of labels z ≡ lower_end g.axes e + 1) h (sym (are.along v e b) ∙ named)
 
-end_below : (g : Grid) (low v w e : ℕ) → IsBest g low v e → AreEnds g.axes e v w → w < voxel_count g.axes
+pub end_below : (g : Grid) (low v w e : ℕ) → IsBest g low v e → AreEnds g.axes e v w → w < voxel_count g.axes
 end_below g low v w e b ends = side ends
   where
     top : higher_end e < voxel_count g.axes

@@ -1,9 +1,8 @@
 -- Steps, the edges that they take, and where they lead.
-use Rattle.std.proofs.Common.{◌≡◌, ◌≢◌, ℕ, zero, suc, ◌+◌, ◌*◌, ◌-◌, ◌/◌, ◌%◌, ◌<◌, ◌≤◌, ◌⊎◌, ◌==◌, Bool, true, false, IsTrue, Option, Some, None, MatchOption, refl, sym, ◌∙◌, ap, ap₂, subst, inl, inr, arith, eq-eqb, ne_eqb, mul-pos}
-use Rattle.agglo_model.specs.Axes.{Axes, AreEnds, IsWithinLimits, voxel_count, stride, is_edge, lower_end, higher_end}
+use Rattle.std.proofs.Common.{◌≡◌, ◌≢◌, ℕ, zero, suc, ◌+◌, ◌*◌, ◌-◌, ◌/◌, ◌%◌, ◌<◌, ◌==◌, Bool, true, false, Option, Some, MatchOption, refl, sym, ◌∙◌, ap, ap₂, subst, inl, inr, arith, eq-eqb, ne_eqb, mul-pos}
+use Rattle.agglo_model.specs.Axes.{Axes, AreEnds, IsWithinLimits, stride, lower_end, higher_end}
 use Rattle.agglo_model.specs.Grid.{Grid}
 use Rattle.agglo_model.specs.EdgeOrder.{IsBest, HasNoBest}
-use Rattle.agglo_model.proofs.Edges.{stride-le, edge_is, higher_end_below, lower_below_higher}
 use Rattle.edge_order.specs.Steps.{edge_at, IsBestStep, reversed, LeadsTo}
 use Rattle.edge_order.specs.declared.step.Step.{Step}
 use Rattle.edge_order.specs.declared.step.Step.TheVariants.{Stay, BackX, BackY, BackZ, OnX, OnY, OnZ}

@@ -1,7 +1,8 @@
-ghost use Rattle.std.specs.Prelude.{◌≡◌, ◌<◌, IfOk, length};
+ghost use Rattle.std.specs.Prelude.{◌≡◌, ◌<◌, EachIndex, IfOk, length};
 ghost use Rattle.agglo_model.specs.Axes.{voxel_count};
 ghost use Rattle.agglo_model.specs.Basins.{label_of};
 ghost use Rattle.agglo_model.specs.Grid.{IsWhole};
+ghost use Rattle.edge_order.specs.Steps.{IsBestStep, LeadsTo};
 ghost use Rattle.steepest_ascent.specs.Progress.{AreRightSoFar, GainsRightLabels, IsLabelOf};
 ghost use Rattle.steepest_ascent.specs.Turns.{IsTurn};
 
@@ -64,30 +65,72 @@ impl<'a> Ascent<'a> {
     }
 
     /// How the ascent goes on from voxel `v`.
-    pub fn turn(&self, v: u32) -> Turn
+    fn turn(&self, v: u32) -> Turn
         requires { v < voxel_count self.now.grid.axes }
         ensures turn { IsTurn self.now.grid self.now.low v result }
         ensures whole { IsWhole self.now.grid }
     {
         let step = self.steps[v as usize];
-        let (far, back) = match step {
-            Step::Stay => return Turn::Stays,
-            Step::BackX => (v - 1, Step::OnX),
-            Step::BackY => (v - self.row, Step::OnY),
-            Step::BackZ => (v - self.layer, Step::OnZ),
-            Step::OnX => (v + 1, Step::BackX),
-            Step::OnY => (v + self.row, Step::BackY),
-            Step::OnZ => (v + self.layer, Step::BackZ),
-        };
-        if self.steps[far as usize] == back {
+        if step == Step::Stay {
+            return Turn::Stays;
+        }
+        let far = self.far_end(v, step);
+        if self.steps[far as usize] == step.reversed() {
             Turn::Ends(v.min(far) + 1)
         } else {
             Turn::Climbs(far)
         }
     }
 
+    /// The voxel to which the best step of voxel `v` leads.
+    fn far_end(&self, v: u32, step: Step) -> u32
+        requires voxel { v < voxel_count self.now.grid.axes }
+        requires best { IsBestStep self.now.grid self.now.low v step }
+        ensures leads { LeadsTo self.now.grid.axes v step result }
+        ensures voxel { result < voxel_count self.now.grid.axes }
+    {
+        match step {
+            Step::Stay => v,
+            Step::BackX => v - 1,
+            Step::BackY => v - self.row,
+            Step::BackZ => v - self.layer,
+            Step::OnX => v + 1,
+            Step::OnY => v + self.row,
+            Step::OnZ => v + self.layer,
+        }
+    }
+
+    /// Gives each voxel its label. Those that have one keep it.
+    pub fn settle_all(&self, labels: &mut [u32])
+        requires one_each { length labels.old ≡ voxel_count self.now.grid.axes }
+        requires right { AreRightSoFar self.now.grid self.now.low labels.old }
+        ensures { EachIndex labels.new (λ v. IsLabelOf self.now.grid self.now.low v (label_of labels.new v)) }
+    {
+        for v in 0..self.vol.dims().voxels() {
+            self.settle(labels, v);
+        }
+    }
+
+    /// Gives voxel `v` its label, where it has none yet and is no background. Other voxels may gain
+    /// theirs with it.
+    fn settle(&self, labels: &mut [u32], v: u32)
+        requires voxel { v < voxel_count self.now.grid.axes }
+        requires one_each { length labels.old ≡ voxel_count self.now.grid.axes }
+        requires right { AreRightSoFar self.now.grid self.now.low labels.old }
+        ensures settled { IsLabelOf self.now.grid self.now.low v (label_of labels.new v) }
+        ensures gains { GainsRightLabels self.now.grid self.now.low labels.old labels.new }
+    {
+        if labels[v as usize] != 0 {
+            return;
+        }
+        let label = self.label(labels, v);
+        if label != 0 {
+            self.give(labels, v, label);
+        }
+    }
+
     /// The label of voxel `v`, found by ascent as far as the first voxel that has its label.
-    pub fn label(&self, labels: &[u32], v: u32) -> u32
+    fn label(&self, labels: &[u32], v: u32) -> u32
         requires voxel { v < voxel_count self.now.grid.axes }
         requires one_each { length labels.now ≡ voxel_count self.now.grid.axes }
         requires right { AreRightSoFar self.now.grid self.now.low labels.now }
@@ -110,7 +153,7 @@ impl<'a> Ascent<'a> {
     }
 
     /// Gives its label to voxel `v`, and to those without a label to which the ascent from it leads.
-    pub fn give(&self, labels: &mut [u32], v: u32, label: u32)
+    fn give(&self, labels: &mut [u32], v: u32, label: u32)
         requires voxel { v < voxel_count self.now.grid.axes }
         requires one_each { length labels.old ≡ voxel_count self.now.grid.axes }
         requires right { IsLabelOf self.now.grid self.now.low v label }

@@ -14,13 +14,6 @@ pub fn whole_basins(alloc: Global, vol: &Volume, low: u8) -> Result<Labels, Memo
 {
     let ascent = Ascent::of(alloc, vol, low)?;
     let mut labels = Vec::from_elem(alloc, 0, vol.dims().voxels() as usize)?;
-    for v in 0..vol.dims().voxels() {
-        if labels[v as usize] == 0 {
-            let label = ascent.label(&labels, v);
-            if label != 0 {
-                ascent.give(&mut labels, v, label);
-            }
-        }
-    }
+    ascent.settle_all(&mut labels);
     Ok(Labels::of(vol.dims(), labels))
 }

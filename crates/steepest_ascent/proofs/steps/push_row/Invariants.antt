@@ -1,4 +1,4 @@
-use Rattle.std.proofs.Common.{◌≡◌, ◌+◌, length}
+use Rattle.std.proofs.Common.{◌≡◌, length}
 use Rattle.agglo_model.specs.Axes.{voxel_at}
 use Rattle.steepest_ascent.specs.Steps.{AreBestSteps}
 use Rattle.steepest_ascent.proofs.steps.push_row.Given as goal
