@@ -1,16 +1,12 @@
 -- The ascent from a voxel along best edges, and the name of the basin to which it leads.
-use Rattle.std.proofs.Common.{◌≡◌, ◌≢◌, ℕ, zero, suc, ◌+◌, ◌*◌, ◌-◌, ◌<◌, ◌≤◌, ◌⊎◌, ◌↔◌, ◌==◌, if◌then◌else◌, Bool, true, false, IsTrue, sum, Option, Some, None, refl, sym, ◌∙◌, ap, subst, inl, inr, arith, ne_eqb, eq-eqb, mul-le-mul_right}
+use Rattle.std.proofs.Common.{unwrap_or, option_map, ◌≡◌, ◌≢◌, ℕ, zero, suc, ◌+◌, ◌*◌, ◌-◌, ◌<◌, ◌≤◌, ◌⊎◌, ◌↔◌, ◌==◌, if◌then◌else◌, Bool, true, false, IsTrue, sum, Option, Some, None, refl, sym, ◌∙◌, ap, subst, inl, inr, arith, ne_eqb, eq-eqb, mul-le-mul_right}
 use Rattle.std.proofs.lemmas.Bool.{cases_eq}
 use Rattle.std.proofs.lemmas.Bool.Decides.{nat_tests}
-use Rattle.agglo_model.specs.Axes.{Axes, voxel_count, edge_count, is_edge, lower_end, higher_end}
+use Rattle.agglo_model.specs.Axes.{Axes, AreEnds, voxel_count, edge_count, is_edge, lower_end, higher_end}
 use Rattle.agglo_model.specs.Grid.{Grid, affinity}
 use Rattle.agglo_model.specs.EdgeOrder.{EdgeBefore, Meets, IsStrongAt, IsBest, HasNoBest}
 use Rattle.agglo_model.proofs.Edges.{edge_is, higher_end_below, lower_below_higher}
 use Rattle.agglo_model.proofs.BestEdge.{best_unique, best_of_strong, height, height_falls, affinity-le-sum, best_of, has_best, best_of_none, best_of_some, no_strong_no_best}
-
--- v and w are the two ends of an edge
-abbrev pub AreEnds : Axes → ℕ → ℕ → ℕ → Type 0
-AreEnds a e v w = ((lower_end a e ≡ v) × (higher_end e ≡ w)) ⊎ ((lower_end a e ≡ w) × (higher_end e ≡ v))
 
 -- the end of an edge that is not v
 abbrev pub far_end : Axes → ℕ → ℕ → ℕ
@@ -272,3 +268,21 @@ basin_name_named g low v e b = name_ends g low (λ x. basin_name g low (x - 1) �
         let h = name_at_root g low r root in
         let is : lower_end g.axes r + 1 - 1 ≡ lower_end g.axes r = omega arith in
         ap (basin_name g low) is ∙ h
+
+-- how high a voxel stands: a number that falls along every ascent where no affinity is above `top`
+unfoldable pub standing : ℕ → Grid → ℕ → ℕ → ℕ
+standing top g low v = unwrap_or (option_map (λ e. height top g e + 1) (best_of g low v)) 0
+
+standing_at : (top : ℕ) (g : Grid) (low v e : ℕ) → IsBest g low v e → standing top g low v ≡ height top g e + 1
+unfolding standing
+standing_at top g low v e b = ap (λ o. unwrap_or (option_map (λ f. height top g f + 1) o) 0) (best_of_some g low v e b)
+
+pub standing_falls : (top : ℕ) (g : Grid) (low v w e f : ℕ) → ((k : ℕ) → affinity g k ≤ top)
+    → IsBest g low v e → AreEnds g.axes e v w → IsBest g low w f → f ≢ e
+    → standing top g low w < standing top g low v
+standing_falls top g low v w e f most b ends c ne =
+    let falls = height_falls top g e f (most f) (edge_is g.axes f c.strong.edge).numbered
+        (next_before g low v w e f b ends c ne) in
+    let here = standing_at top g low v e b in
+    let there = standing_at top g low w f c in
+    omega arith

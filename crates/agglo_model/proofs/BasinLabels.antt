@@ -4,13 +4,13 @@ use Rattle.std.specs.List.{range_with_len}
 use Rattle.std.proofs.lemmas.Bool.{cases_lt}
 use Rattle.std.proofs.lemmas.List.{get_or_past}
 use Rattle.std.proofs.lemmas.List.FromFn.{length-map-range_with_len, get_or-map-range_with_len}
-use Rattle.agglo_model.specs.Axes.{voxel_count, lower_end, higher_end}
+use Rattle.agglo_model.specs.Axes.{AreEnds, voxel_count, lower_end, higher_end}
 use Rattle.agglo_model.specs.Grid.{Grid}
 use Rattle.agglo_model.specs.EdgeOrder.{IsBest}
 use Rattle.agglo_model.specs.Basins.{label_of, AreBasins}
 use Rattle.agglo_model.proofs.Edges.{higher_end_below, lower_below_higher}
 use Rattle.agglo_model.proofs.BestEdge.{has_best, no_strong_no_best}
-use Rattle.agglo_model.proofs.Ascent.{AreEnds, Stays, Roots, Climbs, ascent_of, Within, climb, climb_none, climb_root, climb_on, climb_is_name, no_step, within_next, within_all, enough_steps, basin_name, basin_name_zero, basin_name_none, basin_name_across, basin_name-le, basin_name_named, IsRoot, root_is, name_at_root}
+use Rattle.agglo_model.proofs.Ascent.{Stays, Roots, Climbs, ascent_of, Within, climb, climb_none, climb_root, climb_on, climb_is_name, no_step, within_next, within_all, enough_steps, basin_name, basin_name_zero, basin_name_none, basin_name_across, basin_name-le, basin_name_named, IsRoot, root_is, name_at_root}
 
 -- the names of all voxels
 unfoldable pub basin_labels : Grid → ℕ → List ℕ
@@ -68,7 +68,7 @@ label_across g low labels are v w e b (inr (l, h)) =
     sym (subst (λ z. label_of labels z ≡ label_of labels v) l
     (subst (λ z. label_of labels (lower_end g.axes e) ≡ label_of labels z) h (are.along v e b)))
 
-label_at_root : (g : Grid) (low : ℕ) (labels : List ℕ) → AreBasins g low labels
+pub label_at_root : (g : Grid) (low : ℕ) (labels : List ℕ) → AreBasins g low labels
     → (v w e : ℕ) → AreEnds g.axes e v w → IsBest g low v e → IsBest g low w e
     → label_of labels v ≡ lower_end g.axes e + 1
 label_at_root g low labels are v w e ends b c = side ends
@@ -84,7 +84,7 @@ label_at_root g low labels are v w e ends b c = side ends
     side (inr (l, h)) =
         subst (λ z. label_of labels z ≡ lower_end g.axes e + 1) h (sym (are.along v e b) ∙ named)
 
-end_below : (g : Grid) (low v w e : ℕ) → IsBest g low v e → AreEnds g.axes e v w → w < voxel_count g.axes
+pub end_below : (g : Grid) (low v w e : ℕ) → IsBest g low v e → AreEnds g.axes e v w → w < voxel_count g.axes
 end_below g low v w e b ends = side ends
   where
     top : higher_end e < voxel_count g.axes

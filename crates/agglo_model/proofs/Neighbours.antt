@@ -1,9 +1,8 @@
 -- The six numbers of edges at a voxel: which of them are edges, by the voxel's place.
-use Rattle.std.proofs.Common.{◌≡◌, ◌≢◌, ℕ, zero, suc, ◌+◌, ◌*◌, ◌-◌, ◌/◌, ◌%◌, ◌<◌, ◌≤◌, ◌⊎◌, Bool, true, false, ◌==◌, ◌&&◌, nat_lt, IsTrue, refl, sym, ◌∙◌, ap, subst, inl, inr, arith, le-mul_of_pos_right, mul-pos}
-use Rattle.std.proofs.lemmas.Bool.Decides.{nat_tests}
+use Rattle.std.proofs.Common.{◌≡◌, ℕ, ◌+◌, ◌*◌, ◌/◌, ◌%◌, ◌<◌, ◌≤◌, Bool, true, false, refl, sym, ◌∙◌, ap, subst, arith}
 use Rattle.std.proofs.lemmas.Nat.{mod-mul-add, div-mul-add}
-use Rattle.agglo_model.specs.Axes.{Axes, IsWithinLimits, IsPlace, voxel_count, voxel_at, edge_count, coordinate, stride, is_edge}
-use Rattle.agglo_model.proofs.Edges.{IsEdge, is_edge_from, edge_is, edge_back, edge_on}
+use Rattle.agglo_model.specs.Axes.{Axes, IsPlace, voxel_count, voxel_at, edge_count, coordinate, is_edge}
+use Rattle.agglo_model.proofs.Edges.{is_edge_from, edge_is, edge_back, edge_on}
 use Rattle.agglo_model.proofs.Places.{voxel_at-lt, coordinate-voxel_at_x, coordinate-voxel_at_y, coordinate-voxel_at_z}
 
 -- an edge number by its voxel and axis

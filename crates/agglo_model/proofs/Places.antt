@@ -3,7 +3,7 @@ use Rattle.std.proofs.Common.{◌≡◌, ℕ, ◌+◌, ◌*◌, ◌-◌, ◌/◌
 use Rattle.std.proofs.lemmas.Bool.Decides.{nat_tests}
 use Rattle.std.proofs.lemmas.Nat.{mul-add-lt, div-mul-add, mod-mul-add}
 use Rattle.std.proofs.Math.Nat.{mod-lt, mul-pos, div-add-mod, div-div-eq-div-mul, div-lt_iff_lt-mul, mul-div-le, le-mul_of_pos_right, mod-le}
-use Rattle.agglo_model.specs.Axes.{Axes, IsWithinLimits, IsPlace, IsEdgeBetween, voxel_count, voxel_at, coordinate, stride, edge_count, is_edge, lower_end, higher_end}
+use Rattle.agglo_model.specs.Axes.{Axes, IsWithinLimits, IsPlace, IsEdgeBetween, voxel_count, voxel_at, coordinate, stride, edge_count, lower_end, higher_end}
 
 -- a place has a voxel
 pub voxel_at-lt : (a : Axes) (x y z : ℕ) → IsPlace a x y z → voxel_at a x y z < voxel_count a

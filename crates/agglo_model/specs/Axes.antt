@@ -1,5 +1,5 @@
 -- The axes of a volume, its voxels, and the edges of its grid.
-use Rattle.std.specs.Prelude.{◌≡◌, ℕ, ◌+◌, ◌*◌, ◌-◌, ◌/◌, ◌%◌, ◌^◌, ◌<◌, ◌≤◌, ◌==◌, nat_lt, Bool, true, ◌&&◌, if◌then◌else◌, List, [], ◌∷◌, Option, Some, None}
+use Rattle.std.specs.Prelude.{◌≡◌, ◌⊎◌, ℕ, ◌+◌, ◌*◌, ◌-◌, ◌/◌, ◌%◌, ◌^◌, ◌<◌, ◌≤◌, ◌==◌, nat_lt, Bool, true, ◌&&◌, if◌then◌else◌, List, [], ◌∷◌, Option, Some, None}
 
 -- the lengths of a volume's three axes, in voxels
 pub record Axes : Type 0 where
@@ -38,6 +38,10 @@ higher_end e = e / 3
 
 abbrev pub lower_end : Axes → ℕ → ℕ
 lower_end a e = e / 3 - stride a (e % 3)
+
+-- v and w are the two ends of an edge, in either order
+abbrev pub AreEnds : Axes → ℕ → ℕ → ℕ → Type 0
+AreEnds a e v w = ((lower_end a e ≡ v) × (higher_end e ≡ w)) ⊎ ((lower_end a e ≡ w) × (higher_end e ≡ v))
 
 -- a place of the grid
 pub record IsPlace (a : Axes) (x y z : ℕ) : Type 0 where

@@ -1,5 +1,5 @@
 -- The six steps from a voxel, and the step along its best edge.
-use Rattle.std.specs.Prelude.{ℕ, ◌+◌, ◌*◌, Option, Some, None, MatchOption}
+use Rattle.std.specs.Prelude.{◌≡◌, ℕ, ◌+◌, ◌*◌, Option, Some, None, MatchOption}
 use Rattle.agglo_model.specs.Axes.{Axes}
 use Rattle.agglo_model.specs.Grid.{Grid}
 use Rattle.agglo_model.specs.EdgeOrder.{IsBest, HasNoBest}
@@ -19,3 +19,23 @@ edge_at a v OnZ = Some (3 * (v + a.nx * a.ny) + 2)
 -- the step takes the best edge of v, or stays where v has none
 abbrev pub IsBestStep : Grid → ℕ → ℕ → Step → Type 0
 IsBestStep g low v step = MatchOption (edge_at g.axes v step) (HasNoBest g low v) (λ e. IsBest g low v e)
+
+-- the step that takes the same edge from its far end
+abbrev pub reversed : Step → Step
+reversed Stay = Stay
+reversed BackX = OnX
+reversed BackY = OnY
+reversed BackZ = OnZ
+reversed OnX = BackX
+reversed OnY = BackY
+reversed OnZ = BackZ
+
+-- w is where the step leads from v: the far end of its edge, or v itself where it stays
+abbrev pub LeadsTo : Axes → ℕ → Step → ℕ → Type 0
+LeadsTo a v Stay w = w ≡ v
+LeadsTo a v BackX w = w + 1 ≡ v
+LeadsTo a v BackY w = w + a.nx ≡ v
+LeadsTo a v BackZ w = w + a.nx * a.ny ≡ v
+LeadsTo a v OnX w = w ≡ v + 1
+LeadsTo a v OnY w = w ≡ v + a.nx
+LeadsTo a v OnZ w = w ≡ v + a.nx * a.ny

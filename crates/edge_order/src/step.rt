@@ -1,6 +1,6 @@
 ghost use Rattle.std.specs.Prelude.{◌≡◌, ◌<◌};
 ghost use Rattle.agglo_model.specs.Axes.{voxel_count};
-ghost use Rattle.edge_order.specs.Steps.{edge_at};
+ghost use Rattle.edge_order.specs.Steps.{edge_at, reversed};
 
 use seg_base::Dims;
 
@@ -20,6 +20,21 @@ pub enum Step {
 const _: () = prove!(size_of::<Step>() == 1);
 
 impl Step {
+    /// The step that takes the same edge from its far end.
+    pub fn reversed(self) -> Step
+        ensures { result ≡ reversed self }
+    {
+        match self {
+            Step::Stay => Step::Stay,
+            Step::BackX => Step::OnX,
+            Step::BackY => Step::OnY,
+            Step::BackZ => Step::OnZ,
+            Step::OnX => Step::BackX,
+            Step::OnY => Step::BackY,
+            Step::OnZ => Step::BackZ,
+        }
+    }
+
     /// The number of the edge that this step takes from voxel `v`.
     pub fn edge(self, dims: &Dims, v: u32) -> Option<u32>
         requires { v < voxel_count dims.now }

@@ -1,13 +1,10 @@
-// A library with one function.
+//! The ascent from each voxel along best edges, to the basin where it ends.
+//!
+//! It stands on `edge_order`, which finds the best edges. The commands that label basins stand on it.
 #![tactic(auto)]
 
-ghost use Rattle.std.specs.Prelude.{◌≡◌};
-ghost use Rattle.steepest_ascent.specs.Echo.{echo_of};
+mod ascent;
+mod basins;
+mod steps;
 
-// The `ensures` clause is the contract: what `echo` returns is `echo_of` of its argument, a definition
-// in `specs/Echo.antt`, which a caller's clause can cite too.
-pub fn echo(x: usize) -> usize
-    ensures { result ≡ echo_of x }
-{
-    x
-}
+pub use basins::whole_basins;

@@ -1,5 +1,5 @@
-use Rattle.std.proofs.Common.{◌≡◌, ℕ, ◌+◌, ◌*◌, ◌<◌, ◌≤◌, nat_lt, get_or, refl, arith, sym, ap, ap₂, ◌∙◌, subst, subst₂, true, ◌^◌}
-use Rattle.agglo_model.specs.Axes.{Axes, IsWithinLimits, edge_count, voxel_count, coordinate}
+use Rattle.std.proofs.Common.{◌≡◌, ℕ, ◌+◌, ◌*◌, ◌<◌, ◌≤◌, nat_lt, get_or, arith, sym, ap, ap₂, ◌∙◌, subst, subst₂, true, ◌^◌}
+use Rattle.agglo_model.specs.Axes.{Axes, edge_count, voxel_count, coordinate}
 use Rattle.agglo_model.specs.Grid.{Grid, affinity}
 use Rattle.edge_order.specs.Best.{better}
 use Rattle.edge_order.specs.declared.step.Step.TheVariants.{BackX, BackY, BackZ, OnX, OnY, OnZ}
