@@ -15,15 +15,7 @@ use crate::refusal::Refusal;
 use crate::words::read_words;
 use seg_io::Desk;
 use std::alloc::Global;
-// STUB
-ghost use Rattle.std.specs.Prelude.{IfOk};
-ghost use Rattle.agglo_model.specs.Basins.{AreBasins};
-pub fn whole_basins(alloc: Global, volume: &volume_file::Volume, low: u8) -> Result<seg_base::Labels, agglo_model::Memory>
-    ensures { IfOk result (λ labels. (labels.axes ≡ volume.now.axes) × AreBasins volume.now low labels.labels) }
-{
-    Err(agglo_model::Memory)
-}
-
+use steepest_ascent::whole_basins;
 
 /// Runs the program on the words after its name, and answers the status that it ends with.
 pub fn agglo<D: Desk>(alloc: Global, words: &[String], desk: &mut D) -> u8

@@ -26,11 +26,11 @@ returns-in-Ok g c = record {
     volume = c.in_ok-volume.volume;
     read = c.in_ok-volume.ensures;
     labels = c.in_ok-basins.basins.labels;
-    basins = c.in_ok-basins.ensures.1;
+    basins = c.in_ok-basins.ensures.basins;
   };
   wrote = wrote_same c.args.labels.now c.as_str.result.now c.in_ok-basins.basins.axes c.in_ok-volume.volume.axes c.in_ok-basins.basins.labels
       (g.D.Desk.state c.read_input.new.desk) (g.D.Desk.state c.write_basins.new.desk)
-      c.in_ok-basins.ensures.0 (c.as_str.ensures.value ∙ c.in_ok-note.ensures) c.in-Ok.ensures;
+      c.in_ok-basins.ensures.axes (c.as_str.ensures.value ∙ c.in_ok-note.ensures) c.in-Ok.ensures;
 }
 
 pub returns : goal.returns
@@ -40,9 +40,9 @@ returns g c = record {
     volume = c.in_ok-volume.volume;
     read = c.in_ok-volume.ensures;
     labels = c.in_ok-basins.basins.labels;
-    basins = c.in_ok-basins.ensures.1;
+    basins = c.in_ok-basins.ensures.basins;
   };
   stopped = stopped_same c.args.labels.now c.as_str.result.now c.in_ok-basins.basins.axes c.in_ok-volume.volume.axes c.in_ok-basins.basins.labels
       (g.D.Desk.state c.read_input.new.desk) (g.D.Desk.state c.write_basins.new.desk)
-      c.in_ok-basins.ensures.0 (c.as_str.ensures.value ∙ c.in_ok-note.ensures) c.in-Err.ensures;
+      c.in_ok-basins.ensures.axes (c.as_str.ensures.value ∙ c.in_ok-note.ensures) c.in-Err.ensures;
 }
