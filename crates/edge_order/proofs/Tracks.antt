@@ -1,24 +1,18 @@
--- The best edge of a voxel, kept while its six edges are looked at in ascending order of number.
-use Rattle.std.proofs.Common.{◌≡◌, ℕ, ◌+◌, ◌*◌, ◌<◌, ◌≤◌, ◌==◌, ◌&&◌, ◌||◌, if◌then◌else◌, Bool, true, false, nat_le, nat_lt, List, [], ◌∷◌, Option, Some, None, MatchOption, refl, sym, ◌∙◌, ap, subst, inl, inr, arith, add-zero, lit<, ltb-true, ltb-false, le-mul_of_pos_right, ◌^◌}
+-- The greatest key of a voxel's edges, kept while the six are looked at in ascending order of number.
+use Rattle.std.proofs.Common.{◌≡◌, ◌≢◌, ℕ, ◌+◌, ◌*◌, ◌-◌, ◌/◌, ◌%◌, ◌^◌, ◌<◌, ◌≤◌, ◌⊎◌, ◌==◌, ◌&&◌, ◌||◌, if◌then◌else◌, Bool, true, false, nat_le, nat_lt, max, IsTrue, List, [], ◌∷◌, Option, Some, None, MatchOption, refl, sym, ◌∙◌, ap, subst, inl, inr, arith, add-zero, lit<, ltb-true, ltb-false, le-mul_of_pos_right}
+use Rattle.std.proofs.lemmas.Bool.{cases_lt, cases_eq}
 use Rattle.std.proofs.lemmas.Bool.Decides.{nat_tests}
 use Rattle.agglo_model.specs.Axes.{Axes, IsWithinLimits, voxel_at, voxel_count, coordinate, edge_count, is_edge}
 use Rattle.agglo_model.specs.Grid.{Grid, affinity}
 use Rattle.agglo_model.specs.EdgeOrder.{EdgeBefore, IsBest, HasNoBest}
-use Rattle.agglo_model.proofs.Edges.{edge_on, edge_is}
+use Rattle.agglo_model.proofs.Edges.{edge_back, edge_on, edge_is}
 use Rattle.agglo_model.proofs.Neighbours.{back_edge, no_back_edge, on_edge_x, on_edge_y, on_edge_z, no_on_edge_x, no_on_edge_y, no_on_edge_z}
 use Rattle.agglo_model.proofs.Places.{place-voxel, voxel_at-place}
 use Rattle.agglo_model.proofs.BestEdge.{is_strong, IsIn, IsBestIn, takes, keeps, first_answers, best_at, none_at, clash, strong_test, strong_tells, edges_at, no_strong_no_best}
-use Rattle.edge_order.specs.Best.{better}
+use Rattle.edge_order.specs.Keys.{rank, key, raised, step_of_rank, step_of_key}
 use Rattle.edge_order.specs.Steps.{edge_at, IsBestStep}
-use Rattle.edge_order.specs.declared.best.Best.{Best}
 use Rattle.edge_order.specs.declared.step.Step.{Step}
 use Rattle.edge_order.specs.declared.step.Step.TheVariants.{Stay, BackX, BackY, BackZ, OnX, OnY, OnZ}
-
--- o is the best of the strong edges of the list, and a later edge needs this byte to be better
-abbrev pub TracksEdge : Grid → ℕ → List ℕ → Option ℕ → ℕ → Type 0
-TracksEdge g low es o needed = MatchOption o
-    ((needed ≡ low) × ((f : ℕ) → IsIn f es → is_strong g low f ≡ false))
-    (λ e. IsBestIn g low es e × (needed ≡ affinity g e + 1))
 
 -- the number is above all of the list
 abbrev pub IsAbove : ℕ → List ℕ → Type 0
@@ -30,69 +24,81 @@ above_at e f [] above m = absurd m
 above_at e f (x ∷ xs) above (inl is) = subst (λ z. z < e) (sym is) above.0
 above_at e f (x ∷ xs) above (inr m) = above_at e f xs above.1 m
 
-weak_test : (i : Bool) (low a : ℕ) → a < low → (i && nat_le low a) ≡ false
-weak_test true low a lt = grind (arith, nat_tests)
-weak_test false low a lt = refl
+-- the edge at this step is the best of the list, whatever its byte, and this is its key
+pub record IsKeyOf (g : Grid) (v r : ℕ) (es : List ℕ) (k : ℕ) (s : Step) (e : ℕ) : Type 0 where
+  pub at : edge_at g.axes v s ≡ Some e
+  pub key_is : k ≡ key (affinity g e) s
+  pub ranked : r ≤ rank s
+  pub best : IsBestIn g 0 es e
+
+-- k is the greatest key of the edges of the list, none of which has a rank below r
+pub data Tracks (g : Grid) (v r : ℕ) (es : List ℕ) (k : ℕ) : Type 0 where
+  NoEdge : k ≡ 0 → ((f : ℕ) → IsIn f es → is_strong g 0 f ≡ false) → Tracks g v r es k
+  AnEdge : (s : Step) (e : ℕ) → IsKeyOf g v r es k s e → Tracks g v r es k
+
+rank-le : (s : Step) → rank s ≤ 7
+rank-le Stay = omega arith
+rank-le BackX = omega arith
+rank-le BackY = omega arith
+rank-le BackZ = omega arith
+rank-le OnX = omega arith
+rank-le OnY = omega arith
+rank-le OnZ = omega arith
+
+any_strong : (i : Bool) (a : ℕ) → i ≡ true → (i && nat_le 0 a) ≡ true
+any_strong i a is = grind (arith, nat_tests)
 
 greater_first : (a b e f : ℕ) → b < a → (nat_lt b a || ((a == b) && nat_lt e f)) ≡ true
 greater_first a b e f lt = grind (arith, nat_tests)
 
-tracks_next : (g : Grid) (low e : ℕ) (es : List ℕ) (o : Option ℕ) (needed : ℕ) (t : Bool)
-    → TracksEdge g low es o needed → is_edge g.axes e ≡ true → IsAbove e es
-    → nat_le needed (affinity g e) ≡ t
-    → TracksEdge g low (e ∷ es) (if t then Some e else o) (if t then affinity g e + 1 else needed)
-tracks_next g low e es None needed true h edge above is =
-    let le : low ≤ affinity g e = (let n : needed ≡ low = h.0 in grind (arith, nat_tests)) in
-    (first_answers g low e es h.1 true (strong_test (is_edge g.axes e) low (affinity g e) edge le) , refl)
-tracks_next g low e es None needed false h edge above is =
-    let lt : affinity g e < low = (let n : needed ≡ low = h.0 in grind (arith, nat_tests)) in
-    (h.0 , first_answers g low e es h.1 false (weak_test (is_edge g.axes e) low (affinity g e) lt))
-tracks_next g low e es (Some b) needed true h edge above is =
-    let up : affinity g b < affinity g e = (let n : needed ≡ affinity g b + 1 = h.1 in grind (arith, nat_tests)) in
-    let le : low ≤ affinity g b = (strong_tells (is_edge g.axes b) low (affinity g b) h.0.strong).1 in
-    (takes g low e b es h.0 (strong_test (is_edge g.axes e) low (affinity g e) edge (omega arith)) (greater_first (affinity g e) (affinity g b) e b up) , refl)
-tracks_next g low e es (Some b) needed false h edge above is =
-    let le : affinity g e ≤ affinity g b = (let n : needed ≡ affinity g b + 1 = h.1 in grind (arith, nat_tests)) in
-    (keeps g low e b es h.0 (λ strong ne. after le (above_at e b es above h.0.stands)) , h.1)
+-- one edge more, of a lower rank
+edge_more : (g : Grid) (v r e k : ℕ) (es : List ℕ) (s : Step) → Tracks g v r es k → rank s < r
+    → is_edge g.axes e ≡ true → IsAbove e es → edge_at g.axes v s ≡ Some e
+    → Tracks g v (rank s) (e ∷ es) (max k (key (affinity g e) s))
+edge_more g v r e k es s (NoEdge zero none) lower edge above is =
+    AnEdge s e (record {
+      at = is;
+      key_is = omega arith;
+      ranked = omega arith;
+      best = first_answers g 0 e es none true (any_strong (is_edge g.axes e) (affinity g e) edge) })
+edge_more g v r e k es s (AnEdge t b h) lower edge above is = pick (cases_lt (affinity g b) (affinity g e))
   where
     after : affinity g e ≤ affinity g b → b < e → EdgeBefore g b e
     after le lt = grind arith
+    pick : (affinity g b < affinity g e) ⊎ (affinity g e ≤ affinity g b)
+        → Tracks g v (rank s) (e ∷ es) (max k (key (affinity g e) s))
+    pick (inl up) = AnEdge s e (record {
+      at = is;
+      key_is = omega (arith, h.key_is, rank-le t);
+      ranked = omega arith;
+      best = takes g 0 e b es h.best (any_strong (is_edge g.axes e) (affinity g e) edge)
+          (greater_first (affinity g e) (affinity g b) e b up) })
+    pick (inr le) = AnEdge t b (record {
+      at = h.at;
+      key_is = omega (arith, h.key_is, h.ranked);
+      ranked = omega (arith, h.ranked);
+      best = keeps g 0 e b es h.best (λ strong ne. after le (above_at e b es above h.best.stands)) })
 
--- the best so far, of the edges at v that the list has
-abbrev pub Tracks : Grid → ℕ → ℕ → List ℕ → Best → Type 0
-Tracks g low v es best = TracksEdge g low es (edge_at g.axes v best.step) best.needed
+-- one number more that is no edge
+no_edge_more : (g : Grid) (v r e k : ℕ) (es : List ℕ) (s : Step) → Tracks g v r es k → rank s < r
+    → is_edge g.axes e ≡ false → Tracks g v (rank s) (e ∷ es) k
+no_edge_more g v r e k es s h lower is = skip h
+  where
+    weak : is_strong g 0 e ≡ false
+    weak = ap (λ b. b && nat_le 0 (affinity g e)) is
+    skip : Tracks g v r es k → Tracks g v (rank s) (e ∷ es) k
+    skip (NoEdge zero none) = NoEdge zero (first_answers g 0 e es none false weak)
+    skip (AnEdge t b h) = AnEdge t b (record {
+      at = h.at;
+      key_is = h.key_is;
+      ranked = omega (arith, h.ranked);
+      best = keeps g 0 e b es h.best (λ strong ne. clash (is_strong g 0 e) strong weak) })
 
-pub tracks_none : (g : Grid) (low v : ℕ) (best : Best) → edge_at g.axes v best.step ≡ None
-    → best.needed ≡ low → Tracks g low v [] best
-tracks_none g low v best stays is =
-    subst (λ o. TracksEdge g low [] o best.needed) (sym stays) (is , (λ f m. absurd m))
-
-pick_best : (g : Grid) (low v e : ℕ) (es : List ℕ) (best : Best) (s : Step) (t : Bool)
-    → edge_at g.axes v s ≡ Some e
-    → TracksEdge g low es (if t then Some e else edge_at g.axes v best.step) (if t then affinity g e + 1 else best.needed)
-    → Tracks g low v es (if t then record { needed = affinity g e + 1; step = s } else best)
-pick_best g low v e es best s true is h =
-    subst (λ o. TracksEdge g low es o (affinity g e + 1)) (sym is) h
-pick_best g low v e es best s false is h = h
-
-no_edge_weak : (g : Grid) (low e : ℕ) → is_edge g.axes e ≡ false → is_strong g low e ≡ false
-no_edge_weak g low e is = ap (λ b. b && nat_le low (affinity g e)) is
-
-skip_edge : (g : Grid) (low e : ℕ) (es : List ℕ) (o : Option ℕ) (needed : ℕ)
-    → TracksEdge g low es o needed → is_strong g low e ≡ false → TracksEdge g low (e ∷ es) o needed
-skip_edge g low e es None needed h weak = (h.0 , first_answers g low e es h.1 false weak)
-skip_edge g low e es (Some b) needed h weak =
-    (keeps g low e b es h.0 (λ strong ne. clash (is_strong g low e) strong weak) , h.1)
-
--- one number more: the test tells whether it is an edge
-pub tracks_better : (g : Grid) (low v e : ℕ) (es : List ℕ) (best : Best) (s : Step) (exists : Bool)
-    → Tracks g low v es best → is_edge g.axes e ≡ exists → IsAbove e es → edge_at g.axes v s ≡ Some e
-    → Tracks g low v (e ∷ es) (better best exists (affinity g e) s)
-tracks_better g low v e es best s true h edge above is =
-    pick_best g low v e (e ∷ es) best s (nat_le best.needed (affinity g e)) is
-        (tracks_next g low e es (edge_at g.axes v best.step) best.needed (nat_le best.needed (affinity g e)) h edge above refl)
-tracks_better g low v e es best s false h edge above is =
-    skip_edge g low e es (edge_at g.axes v best.step) best.needed h (no_edge_weak g low e edge)
+pub tracks_raised : (g : Grid) (v r e k : ℕ) (es : List ℕ) (s : Step) (exists : Bool) → Tracks g v r es k
+    → rank s < r → is_edge g.axes e ≡ exists → IsAbove e es → edge_at g.axes v s ≡ Some e
+    → Tracks g v (rank s) (e ∷ es) (raised k exists (key (affinity g e) s))
+tracks_raised g v r e k es s true h lower edge above is = edge_more g v r e k es s h lower edge above is
+tracks_raised g v r e k es s false h lower edge above is = no_edge_more g v r e k es s h lower edge
 
 -- the six numbers, the last first
 abbrev pub seen_three : ℕ → List ℕ
@@ -120,18 +126,83 @@ in_six a v f (inr (inr (inr (inr (inl is))))) = inr (inl (omega arith))
 in_six a v f (inr (inr (inr (inr (inr (inl is)))))) = inl (omega arith)
 in_six a v f (inr (inr (inr (inr (inr (inr no_more)))))) = absurd no_more
 
--- after all six, the step is that of the best edge
-pub tracks_all : (g : Grid) (low v : ℕ) (best : Best) → Tracks g low v (seen_six g.axes v) best
-    → IsBestStep g low v best.step
-tracks_all g low v best h = answer (edge_at g.axes v best.step) h
+-- after all six, the key tells the step of the best edge
+rank_back : (s : Step) → step_of_rank (rank s) ≡ s
+rank_back Stay = refl
+rank_back BackX = refl
+rank_back BackY = refl
+rank_back BackZ = refl
+rank_back OnX = refl
+rank_back OnY = refl
+rank_back OnZ = refl
+
+either_stays : (b : Bool) → (if b then Stay else Stay) ≡ Stay
+either_stays true = refl
+either_stays false = refl
+
+low_test : (b i : Bool) (a low : ℕ) → low ≤ a → i ≡ true → (i && nat_le low a) ≡ true
+low_test b i a low le is = grind (arith, nat_tests)
+
+stays : (g : Grid) (low v : ℕ) → ((f : ℕ) → IsIn f (edges_at g.axes v) → is_strong g low f ≡ false)
+    → IsBestStep g low v Stay
+stays g low v weak = no_strong_no_best g low v (none_at g low v weak)
+
+not_strong : (b : Bool) → (b ≡ true → ⊥) → b ≡ false
+not_strong true h = absurd (h refl)
+not_strong false h = refl
+
+at_least_zero : (i : Bool) (low a : ℕ) → (i && nat_le low a) ≡ true → (i && nat_le 0 a) ≡ true
+at_least_zero i low a t = any_strong i a (strong_tells i low a t).0
+
+-- the best of all is the best of the strong ones, where it is strong
+strong_best : (g : Grid) (low v e : ℕ) → IsBestIn g 0 (seen_six g.axes v) e → low ≤ affinity g e → IsBest g low v e
+strong_best g low v e b le = best_at g low v e (record {
+  stands = six_in g.axes v e b.stands;
+  strong = strong_test (is_edge g.axes e) low (affinity g e)
+      (strong_tells (is_edge g.axes e) 0 (affinity g e) b.strong).0 le;
+  first = λ f m s ne. b.first f (in_six g.axes v f m) (at_least_zero (is_edge g.axes f) low (affinity g f) s) ne })
+
+-- and else there is none
+none_strong : (g : Grid) (low v e : ℕ) → IsBestIn g 0 (seen_six g.axes v) e → affinity g e < low
+    → (f : ℕ) → IsIn f (edges_at g.axes v) → is_strong g low f ≡ false
+none_strong g low v e b less f m = not_strong (is_strong g low f) (λ s. refuse s (cases_eq f e))
   where
-    answer : (o : Option ℕ) → TracksEdge g low (seen_six g.axes v) o best.needed
-        → MatchOption o (HasNoBest g low v) (λ e. IsBest g low v e)
-    answer None t = no_strong_no_best g low v (none_at g low v (λ f m. t.1 f (in_six g.axes v f m)))
-    answer (Some b) t = best_at g low v b (record {
-      stands = six_in g.axes v b t.0.stands;
-      strong = t.0.strong;
-      first = λ f m s ne. t.0.first f (in_six g.axes v f m) s ne })
+    over : is_strong g low f ≡ true → low ≤ affinity g f
+    over s = (strong_tells (is_edge g.axes f) low (affinity g f) s).1
+    refuse : is_strong g low f ≡ true → (f ≡ e) ⊎ (f ≢ e) → ⊥
+    refuse s (inl same) =
+        let h = subst (λ u. low ≤ affinity g u) same (over s) in omega arith
+    refuse s (inr ne) =
+        let after = b.first f (in_six g.axes v f m) (at_least_zero (is_edge g.axes f) low (affinity g f) s) ne in
+        let h = over s in
+        omega arith
+
+pub tracks_all : (g : Grid) (low v r k : ℕ) → Tracks g v r (seen_six g.axes v) k
+    → IsBestStep g low v (step_of_key low k)
+tracks_all g low v r k (NoEdge zero none) =
+    subst (λ n. IsBestStep g low v (step_of_key low n)) (sym zero)
+        (subst (λ s. IsBestStep g low v s) (sym (either_stays (nat_lt 0 low)))
+            (stays g low v (λ f m. weaker f (none f (in_six g.axes v f m)))))
+  where
+    weaker : (f : ℕ) → is_strong g 0 f ≡ false → is_strong g low f ≡ false
+    weaker f weak = not_strong (is_strong g low f) (λ s.
+        clash (is_strong g 0 f) (at_least_zero (is_edge g.axes f) low (affinity g f) s) weak)
+tracks_all g low v r k (AnEdge s e h) = pick (nat_lt (affinity g e) low) refl
+  where
+    byte : k / 8 ≡ affinity g e
+    byte = omega (arith, h.key_is, rank-le s)
+    step : k % 8 ≡ rank s
+    step = omega (arith, h.key_is, rank-le s)
+    told : step_of_key low k ≡ (if nat_lt (affinity g e) low then Stay else s)
+    told = ap (λ n. if nat_lt n low then Stay else step_of_rank (k % 8)) byte
+        ∙ ap (λ n. if nat_lt (affinity g e) low then Stay else step_of_rank n) step
+        ∙ ap (λ t. if nat_lt (affinity g e) low then Stay else t) (rank_back s)
+    pick : (b : Bool) → nat_lt (affinity g e) low ≡ b → IsBestStep g low v (step_of_key low k)
+    pick true is = subst (λ t. IsBestStep g low v t) (sym (told ∙ ap (λ b. if b then Stay else s) is))
+        (stays g low v (none_strong g low v e h.best (ltb-true (affinity g e) low is)))
+    pick false is = subst (λ t. IsBestStep g low v t) (sym (told ∙ ap (λ b. if b then Stay else s) is))
+        (subst (λ o. MatchOption o (HasNoBest g low v) (λ f. IsBest g low v f)) (sym h.at)
+            (strong_best g low v e h.best (ltb-false (affinity g e) low is)))
 
 -- whether the six numbers are edges, by the place of v
 by_test : (t e : Bool) → (t ≡ true → e ≡ true) → (t ≡ false → e ≡ false) → e ≡ t
@@ -197,33 +268,32 @@ layer-le a limits =
     (omega (arith, le-mul_of_pos_right a.nx some) ,
      omega (arith, le-mul_of_pos_right (a.nx * a.ny) deep, limits.most_voxels))
 
--- one after the other: after the sixth, the step is that of the best edge
-pub best_of_six : (g : Grid) (low v : ℕ) (b0 b1 b2 b3 b4 b5 b6 : Best)
+-- one after the other: the sixth key tells the step of the best edge
+pub best_of_six : (g : Grid) (low v k1 k2 k3 k4 k5 k6 : ℕ)
     → IsWithinLimits g.axes → v < voxel_count g.axes
-    → b0 ≡ record { needed = low; step = Stay }
-    → b1 ≡ better b0 (nat_lt 0 (coordinate g.axes v 0)) (affinity g (3 * v)) BackX
-    → b2 ≡ better b1 (nat_lt 0 (coordinate g.axes v 1)) (affinity g (3 * v + 1)) BackY
-    → b3 ≡ better b2 (nat_lt 0 (coordinate g.axes v 2)) (affinity g (3 * v + 2)) BackZ
-    → b4 ≡ better b3 (nat_lt (coordinate g.axes v 0 + 1) g.axes.nx) (affinity g (3 * (v + 1))) OnX
-    → b5 ≡ better b4 (nat_lt (coordinate g.axes v 1 + 1) g.axes.ny) (affinity g (3 * (v + g.axes.nx) + 1)) OnY
-    → b6 ≡ better b5 (nat_lt (coordinate g.axes v 2 + 1) g.axes.nz) (affinity g (3 * (v + g.axes.nx * g.axes.ny) + 2)) OnZ
-    → IsBestStep g low v b6.step
-best_of_six g low v b0 b1 b2 b3 b4 b5 b6 limits below e0 e1 e2 e3 e4 e5 e6 =
+    → k1 ≡ raised 0 (nat_lt 0 (coordinate g.axes v 0)) (key (affinity g (3 * v)) BackX)
+    → k2 ≡ raised k1 (nat_lt 0 (coordinate g.axes v 1)) (key (affinity g (3 * v + 1)) BackY)
+    → k3 ≡ raised k2 (nat_lt 0 (coordinate g.axes v 2)) (key (affinity g (3 * v + 2)) BackZ)
+    → k4 ≡ raised k3 (nat_lt (coordinate g.axes v 0 + 1) g.axes.nx) (key (affinity g (3 * (v + 1))) OnX)
+    → k5 ≡ raised k4 (nat_lt (coordinate g.axes v 1 + 1) g.axes.ny) (key (affinity g (3 * (v + g.axes.nx) + 1)) OnY)
+    → k6 ≡ raised k5 (nat_lt (coordinate g.axes v 2 + 1) g.axes.nz) (key (affinity g (3 * (v + g.axes.nx * g.axes.ny) + 2)) OnZ)
+    → IsBestStep g low v (step_of_key low k6)
+best_of_six g low v k1 k2 k3 k4 k5 k6 limits below e1 e2 e3 e4 e5 e6 =
     let a = g.axes in
     let wide : (a.nx ≤ a.nx * a.ny) × (a.nx * a.ny ≤ 2 ^ 28) = layer-le a limits in
     let some : 0 < a.nx = limits.some_x in
-    let t0 : Tracks g low v [] b0 = subst (λ b. Tracks g low v [] b) (sym e0) (tracks_none g low v (record { needed = low; step = Stay }) refl refl) in
-    let t1 = on_to b1 BackX (3 * v) [] b0 (nat_lt 0 (coordinate a v 0)) e1 t0 (edge_back_x a v below) tt refl in
-    let t2 = on_to b2 BackY (3 * v + 1) (3 * v ∷ []) b1 (nat_lt 0 (coordinate a v 1)) e2 t1 (edge_back_at a v 1 below (lit< tt)) (omega arith , tt) refl in
-    let t3 = on_to b3 BackZ (3 * v + 2) ((3 * v + 1) ∷ 3 * v ∷ []) b2 (nat_lt 0 (coordinate a v 2)) e3 t2 (edge_back_at a v 2 below (lit< tt)) (omega arith , (omega arith , tt)) refl in
-    let t4 = on_to b4 OnX (3 * (v + 1)) (seen_three v) b3 (nat_lt (coordinate a v 0 + 1) a.nx) e4 t3 (edge_on_x a v limits below) (omega arith , (omega arith , (omega arith , tt))) refl in
-    let t5 = on_to b5 OnY (3 * (v + a.nx) + 1) ((3 * (v + 1)) ∷ seen_three v) b4 (nat_lt (coordinate a v 1 + 1) a.ny) e5 t4 (edge_on_y a v limits below) (omega arith , (omega arith , (omega arith , (omega arith , tt)))) refl in
-    let t6 = on_to b6 OnZ (3 * (v + a.nx * a.ny) + 2) ((3 * (v + a.nx) + 1) ∷ (3 * (v + 1)) ∷ seen_three v) b5 (nat_lt (coordinate a v 2 + 1) a.nz) e6 t5 (edge_on_z a v limits below) (omega arith , (omega arith , (omega arith , (omega arith , (omega arith , tt))))) refl in
-    tracks_all g low v b6 t6
+    let t0 : Tracks g v 8 [] 0 = NoEdge refl (λ f m. absurd m) in
+    let t1 = on_to k1 BackX 8 (3 * v) [] 0 (nat_lt 0 (coordinate a v 0)) e1 t0 (omega arith) (edge_back_x a v below) tt refl in
+    let t2 = on_to k2 BackY 7 (3 * v + 1) (3 * v ∷ []) k1 (nat_lt 0 (coordinate a v 1)) e2 t1 (omega arith) (edge_back_at a v 1 below (lit< tt)) (omega arith , tt) refl in
+    let t3 = on_to k3 BackZ 6 (3 * v + 2) ((3 * v + 1) ∷ 3 * v ∷ []) k2 (nat_lt 0 (coordinate a v 2)) e3 t2 (omega arith) (edge_back_at a v 2 below (lit< tt)) (omega arith , (omega arith , tt)) refl in
+    let t4 = on_to k4 OnX 5 (3 * (v + 1)) (seen_three v) k3 (nat_lt (coordinate a v 0 + 1) a.nx) e4 t3 (omega arith) (edge_on_x a v limits below) (omega arith , (omega arith , (omega arith , tt))) refl in
+    let t5 = on_to k5 OnY 4 (3 * (v + a.nx) + 1) ((3 * (v + 1)) ∷ seen_three v) k4 (nat_lt (coordinate a v 1 + 1) a.ny) e5 t4 (omega arith) (edge_on_y a v limits below) (omega arith , (omega arith , (omega arith , (omega arith , tt)))) refl in
+    let t6 = on_to k6 OnZ 3 (3 * (v + a.nx * a.ny) + 2) ((3 * (v + a.nx) + 1) ∷ (3 * (v + 1)) ∷ seen_three v) k5 (nat_lt (coordinate a v 2 + 1) a.nz) e6 t5 (omega arith) (edge_on_z a v limits below) (omega arith , (omega arith , (omega arith , (omega arith , (omega arith , tt))))) refl in
+    tracks_all g low v 2 k6 t6
   where
-    on_to : (after : Best) (s : Step) (e : ℕ) (es : List ℕ) (best : Best) (exists : Bool)
-        → after ≡ better best exists (affinity g e) s
-        → Tracks g low v es best → is_edge g.axes e ≡ exists → IsAbove e es → edge_at g.axes v s ≡ Some e
-        → Tracks g low v (e ∷ es) after
-    on_to after s e es best exists was h edge above is =
-        subst (λ b. Tracks g low v (e ∷ es) b) (sym was) (tracks_better g low v e es best s exists h edge above is)
+    on_to : (after : ℕ) (s : Step) (r e : ℕ) (es : List ℕ) (before : ℕ) (exists : Bool)
+        → after ≡ raised before exists (key (affinity g e) s)
+        → Tracks g v r es before → rank s < r → is_edge g.axes e ≡ exists → IsAbove e es → edge_at g.axes v s ≡ Some e
+        → Tracks g v (rank s) (e ∷ es) after
+    on_to after s r e es before exists was h lower edge above is =
+        subst (λ k. Tracks g v (rank s) (e ∷ es) k) (sym was) (tracks_raised g v r e before es s exists h lower edge above is)

@@ -1,5 +1,5 @@
 -- The six steps from a voxel, and the step along its best edge.
-use Rattle.std.specs.Prelude.{◌≡◌, ℕ, ◌+◌, ◌*◌, Option, Some, None, MatchOption}
+use Rattle.std.specs.Prelude.{◌≡◌, ℕ, ◌+◌, ◌*◌, ◌<◌, List, length, slice_index_or, Option, Some, None, MatchOption}
 use Rattle.agglo_model.specs.Axes.{Axes}
 use Rattle.agglo_model.specs.Grid.{Grid}
 use Rattle.agglo_model.specs.EdgeOrder.{IsBest, HasNoBest}
@@ -39,3 +39,7 @@ LeadsTo a v BackZ w = w + a.nx * a.ny ≡ v
 LeadsTo a v OnX w = w ≡ v + 1
 LeadsTo a v OnY w = w ≡ v + a.nx
 LeadsTo a v OnZ w = w ≡ v + a.nx * a.ny
+
+-- each entry is the best step of its voxel
+abbrev pub AreBestSteps : Grid → ℕ → List Step → Type 0
+AreBestSteps g low steps = (v : ℕ) → v < length steps → IsBestStep g low v (slice_index_or steps v Stay)

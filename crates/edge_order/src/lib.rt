@@ -4,7 +4,9 @@
 #![tactic(auto)]
 
 mod best;
+
 mod step;
 
-pub use best::{best_edge, best_step, stronger};
+pub use best::{best_edge, stronger};
+
 pub use step::Step;

@@ -1,5 +1,6 @@
 ghost use Rattle.std.specs.Prelude.{◌≡◌, ◌<◌};
 ghost use Rattle.agglo_model.specs.Axes.{voxel_count};
+ghost use Rattle.edge_order.specs.Keys.{key, rank, step_of_key};
 ghost use Rattle.edge_order.specs.Steps.{edge_at, reversed};
 
 use seg_base::Dims;
@@ -33,6 +34,48 @@ impl Step {
             Step::OnY => Step::BackY,
             Step::OnZ => Step::BackZ,
         }
+    }
+
+    /// The step of the edge with this key, where its byte is at least `low`, and else `Stay`.
+    pub(crate) fn of_key(key: u16, low: u8) -> Step
+        ensures { result ≡ step_of_key low key }
+    {
+        if key / 8 < u16::from(low) {
+            return Step::Stay;
+        }
+        match key % 8 {
+            7 => Step::BackX,
+            6 => Step::BackY,
+            5 => Step::BackZ,
+            4 => Step::OnX,
+            3 => Step::OnY,
+            2 => Step::OnZ,
+            _ => Step::Stay,
+        }
+    }
+
+    /// A number that is greater, the smaller the number of the edge that this step takes.
+    fn rank(self) -> u16
+        ensures value { result ≡ rank self }
+        ensures small { result < 8 }
+    {
+        match self {
+            Step::Stay => 0,
+            Step::BackX => 7,
+            Step::BackY => 6,
+            Step::BackZ => 5,
+            Step::OnX => 4,
+            Step::OnY => 3,
+            Step::OnZ => 2,
+        }
+    }
+
+    /// The edge with this byte at this step as one number, which is greater for the edge that comes
+    /// before. So the best edge of a voxel is a maximum, and a row of voxels is done at once.
+    pub(crate) fn key(self, byte: u8) -> u16
+        ensures value { result ≡ key byte self }
+    {
+        8 * u16::from(byte) + self.rank()
     }
 
     /// The number of the edge that this step takes from voxel `v`.
