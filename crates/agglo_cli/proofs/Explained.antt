@@ -59,7 +59,7 @@ not_flawed : (words : List (List ℕ)) (settings : BasinsSettings) (s t : DeskSt
 not_flawed words settings s t P spelled f n =
     let same : n.settings.volume ≡ settings.volume = same_volume words n.settings settings n.spelled spelled in
     sound_or_flawed settings.volume s.files P f.read.found f.read.sound
-      (subst (λ (name : List ℕ). IfSome (file_of s name) (λ bytes. IsSome (volume_flaw bytes))) same n.flawed)
+    (subst (λ (name : List ℕ). IfSome (file_of s name) (λ bytes. IsSome (volume_flaw bytes))) same n.flawed)
 
 mid_misses : (settings : BasinsSettings) (s t : DeskState) → FindsBasins settings s t → t.misses ≡ s.misses
 mid_misses settings s t f = ap (λ (z : DeskState). z.misses) f.read.after
@@ -83,12 +83,12 @@ finishes_explained words s t f = record {
 
 stopped_misses : (name file note : List ℕ) (s t : DeskState) → StopsWriting name file note s t → t.misses ≡ s.misses
 stopped_misses name file note s t stopped = elim stopped.progress [
-    inl none ↦ ap (λ (z : DeskState). z.misses) none
+  | inl none ↦ ap (λ (z : DeskState). z.misses) none
   | inr some ↦ elim some [
-      inl part ↦ wrote_misses _ _ _ s t part.2
+    | inl part ↦ wrote_misses _ _ _ s t part.2
     | inr part ↦ wrote_misses _ _ _ s t part.2
-    ]
   ]
+]
 
 stops_explained : (words : List (List ℕ)) (s t : DeskState) → StopsOnTheWay words s t → Explained words s t 6
 stops_explained words s t f = record {

@@ -28,7 +28,7 @@ input_alone : (s t u : DeskState) (input : Option (List ℕ)) → t ≡ record s
     → u ≡ record t { input = input } → u ≡ record s { has_input = true; input = u.input }
 input_alone s t u input e f =
     let g : u ≡ record s { has_input = true; input = input } =
-        f ∙ ap (λ (z : DeskState). record z { input = input }) e in
+    f ∙ ap (λ (z : DeskState). record z { input = input }) e in
     g ∙ ap (λ (i : Option (List ℕ)). record s { has_input = true; input = i }) (sym (ap (λ (z : DeskState). z.input) g))
 
 pub reads_file : (name : List ℕ) (volume : Grid) (s t u : DeskState) → OpensInput name s t → ReadsVolume volume t u
@@ -88,7 +88,7 @@ fails_to_open name s t f = record {
 pub fails_to_read : (name : List ℕ) (s t u : DeskState) → OpensInput name s t → FailsAfterReading t u → FailsToReadFile name s u
 fails_to_read name s t u o f =
     let g : u ≡ record s { input_faults = u.input_faults; has_input = true; input = option_map (drop f.read) t.input } =
-        f.after ∙ ap (λ (z : DeskState). record z { input_faults = u.input_faults; input = option_map (drop f.read) t.input }) o.after in
+    f.after ∙ ap (λ (z : DeskState). record z { input_faults = u.input_faults; input = option_map (drop f.read) t.input }) o.after in
     record {
       fault = subst (λ (n : ℕ). Rose n u.input_faults) (ap (λ (z : DeskState). z.input_faults) o.after) f.fault;
       misses = stays name s.files s.misses u.misses (ap (λ (z : DeskState). z.misses) g);

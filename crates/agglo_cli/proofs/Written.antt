@@ -28,8 +28,12 @@ none_gained (Some b) = ap Some (sym (append-nil b))
 
 -- what the state tells of a run that wrote
 wrote_all : (name file gained : List ℕ) (s t u : DeskState) (faults : ℕ) → OpensOutput Labels name s t
-    → u ≡ record s { output_faults = faults; labels = option_map (λ (w : List ℕ). w ++ file) t.labels;
-      note = option_map (λ (w : List ℕ). w ++ gained) s.note; opened = s.opened ++ record { port = Labels; name = name } ∷ [] }
+    → u ≡ record s {
+      output_faults = faults;
+      labels = option_map (λ (w : List ℕ). w ++ file) t.labels;
+      note = option_map (λ (w : List ℕ). w ++ gained) s.note;
+      opened = s.opened ++ record { port = Labels; name = name } ∷ [];
+    }
     → Wrote name file gained s u
 wrote_all name file gained s t u faults o e =
     let F : DeskState → DeskState = λ (z : DeskState). record s { output_faults = z.output_faults; labels = z.labels; note = z.note; opened = z.opened } in
@@ -50,9 +54,9 @@ pub stops_in_file : (name file note : List ℕ) (s t u : DeskState) → OpensOut
 stops_in_file name file note s t u o f =
     let same : t.output_faults ≡ s.output_faults = ap (λ (z : DeskState). z.output_faults) o.after in
     let e : u ≡ record s { output_faults = u.output_faults; labels = option_map (λ (w : List ℕ). w ++ take f.written file) t.labels; opened = s.opened ++ record { port = Labels; name = name } ∷ [] } =
-        f.after ∙ ap (λ (z : DeskState). with_faults Labels u.output_faults (appended Labels (take f.written file) z)) o.after in
+    f.after ∙ ap (λ (z : DeskState). with_faults Labels u.output_faults (appended Labels (take f.written file) z)) o.after in
     let e' : u ≡ record s { output_faults = u.output_faults; labels = option_map (λ (w : List ℕ). w ++ take f.written file) t.labels; note = option_map (λ (w : List ℕ). w ++ []) s.note; opened = s.opened ++ record { port = Labels; name = name } ∷ [] } =
-        e ∙ ap (λ (n : Option (List ℕ)). record s { output_faults = u.output_faults; labels = option_map (λ (w : List ℕ). w ++ take f.written file) t.labels; note = n; opened = s.opened ++ record { port = Labels; name = name } ∷ [] }) (none_gained s.note) in
+    e ∙ ap (λ (n : Option (List ℕ)). record s { output_faults = u.output_faults; labels = option_map (λ (w : List ℕ). w ++ take f.written file) t.labels; note = n; opened = s.opened ++ record { port = Labels; name = name } ∷ [] }) (none_gained s.note) in
     record {
       fault = subst (λ (n : ℕ). Rose n u.output_faults) same f.fault;
       progress = inr (inl (f.written, f.most, wrote_all name (take f.written file) [] s t u u.output_faults o e'));
@@ -60,8 +64,11 @@ stops_in_file name file note s t u o f =
 
 -- the note was cut short, or not
 note_state : (name file gained : List ℕ) (s t u : DeskState) → OpensOutput Labels name s t → u ≡ appended Labels file t
-    → appended Note gained u ≡ record s { labels = option_map (λ (w : List ℕ). w ++ file) t.labels;
-      note = option_map (λ (w : List ℕ). w ++ gained) s.note; opened = s.opened ++ record { port = Labels; name = name } ∷ [] }
+    → appended Note gained u ≡ record s {
+      labels = option_map (λ (w : List ℕ). w ++ file) t.labels;
+      note = option_map (λ (w : List ℕ). w ++ gained) s.note;
+      opened = s.opened ++ record { port = Labels; name = name } ∷ [];
+    }
 note_state name file gained s t u o e = ap (appended Note gained) (e ∙ ap (appended Labels file) o.after)
 
 faults_kept : (name file : List ℕ) (s t u : DeskState) → OpensOutput Labels name s t → u ≡ appended Labels file t
@@ -79,6 +86,10 @@ note_outcome (Ok x) name file note s t u v o e h = record {
 }
 note_outcome (Err x) name file note s t u v o e f = record {
   fault = subst (λ (n : ℕ). Rose n v.output_faults) (faults_kept name file s t u o e) f.fault;
-  progress = inr (inr (f.written, f.most, wrote_all name file (take f.written note) s t v v.output_faults o
-      (f.after ∙ ap (with_faults Note v.output_faults) (note_state name file (take f.written note) s t u o e))));
+  progress = inr (inr (
+    f.written,
+    f.most,
+    wrote_all name file (take f.written note) s t v v.output_faults o
+        (f.after ∙ ap (with_faults Note v.output_faults) (note_state name file (take f.written note) s t u o e)),
+  ));
 }

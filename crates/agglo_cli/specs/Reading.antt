@@ -19,7 +19,11 @@ HasFile s name = IfSome s.files (λ files. IsSome (file_named files name))
 -- nothing changed but the input: what is written, and what is open to be written, is as before
 abbrev pub OnlyInputChanges : DeskState → DeskState → Type 0
 OnlyInputChanges old new = new ≡ record old {
-  input_faults = new.input_faults; misses = new.misses; has_input = new.has_input; input = new.input }
+  input_faults = new.input_faults;
+  misses = new.misses;
+  has_input = new.has_input;
+  input = new.input;
+}
 
 -- A name that some file has is no miss.
 abbrev pub MissesStay : List ℕ → DeskState → DeskState → Type 0

@@ -12,7 +12,11 @@ pub record Wrote (name bytes gained : List ℕ) (old new : DeskState) : Type 0 w
   pub note : new.note ≡ option_map (λ written. written ++ gained) old.note
   pub opened : new.opened ≡ old.opened ++ record { port = Labels; name = name } ∷ []
   pub after : new ≡ record old {
-      output_faults = new.output_faults; labels = new.labels; note = new.note; opened = new.opened }
+    output_faults = new.output_faults;
+    labels = new.labels;
+    note = new.note;
+    opened = new.opened;
+  }
 
 -- The answer was written: the whole file, the whole note, with no fault.
 pub record WritesAnswer (name file note : List ℕ) (old new : DeskState) : Type 0 where
@@ -35,4 +39,4 @@ WrotePartOfNote name file note old new = (k : ℕ) × (k ≤ length note) × Wro
 pub record StopsWriting (name file note : List ℕ) (old new : DeskState) : Type 0 where
   pub fault : Rose old.output_faults new.output_faults
   pub progress : WroteNothing old new ⊎ (WrotePartOfFile name file old new
-    ⊎ WrotePartOfNote name file note old new)
+      ⊎ WrotePartOfNote name file note old new)

@@ -132,19 +132,19 @@ impl<R: Files + Print + Eprint> Desk for FileDesk<R> {
     ghost use Rattle.agglo_cli.specs.FileDesk.{opened_ports};
 
     ghost state = { λ desk. record {
-        input_faults = desk.input_faults;
-        output_faults = desk.output_faults;
-        trouble_faults = desk.trouble_faults;
-        files = None;
-        misses = 0;
-        has_input = is_some desk.input;
-        input = None;
-        labels = None;
-        tree = None;
-        volume = None;
-        note = None;
-        trouble = None;
-        opened = opened_ports desk.outputs.opened.items;
+      input_faults = desk.input_faults;
+      output_faults = desk.output_faults;
+      trouble_faults = desk.trouble_faults;
+      files = None;
+      misses = 0;
+      has_input = is_some desk.input;
+      input = None;
+      labels = None;
+      tree = None;
+      volume = None;
+      note = None;
+      trouble = None;
+      opened = opened_ports desk.outputs.opened.items;
     } };
 
     fn open_in(&mut self, name: &str) -> Result<(), Failed> {

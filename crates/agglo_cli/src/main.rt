@@ -18,10 +18,9 @@ mod words;
 use crate::file_desk::FileDesk;
 use crate::top_call::agglo;
 use std::alloc::Global;
-use std::env;
-use std::io;
 use std::process::ExitCode;
 use std::rt::Env;
+use std::{env, io};
 
 /// Runs the top call on the words after the program's name.
 fn main(rt: HostRuntime) -> ExitCode {

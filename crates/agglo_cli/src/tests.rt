@@ -3,9 +3,8 @@ use crate::top_call::agglo;
 use agglo_model::Memory;
 use seg_io::{CallKind, MemoryDesk, Port, Side};
 use std::alloc::{AllocError, Global};
-use std::fs;
-use std::io;
 use std::rt::Files;
+use std::{fs, io};
 
 /// Four voxels in a row, whose edges have the affinities 200, 50 and 180.
 const FOUR: &[u8] = b"AFFVOL01\x04\0\0\0\x01\0\0\0\x01\0\0\0\x03\0\0\0\0\0\0\0\0\0\0\0\
@@ -130,7 +129,11 @@ fn refuses_other_files(rt: HostRuntime) {
 
 #[test]
 fn tells_faults_of_the_input(rt: HostRuntime) {
-    for failing in [(CallKind::OpenIn, 1), (CallKind::Read, 1), (CallKind::Read, 2)] {
+    for failing in [
+        (CallKind::OpenIn, 1),
+        (CallKind::Read, 1),
+        (CallKind::Read, 2),
+    ] {
         let ran = run(rt.alloc(), BASINS, FOUR, failing).expect(&rt, "memory");
         assert_eq!(rt; ran.status, 5);
         assert_eq!(rt; ran.opened, 0);
@@ -152,7 +155,10 @@ fn tells_faults_of_the_output(rt: HostRuntime) {
 
 /// Runs the program over real files.
 fn run_on_files<R: Files + Print + Eprint + Drop>(rt: R, alloc: Global) -> Result<u8, AllocError> {
-    let words = words(alloc, "basins --volume agglo_test.vol --labels agglo_test.lab --low 1")?;
+    let words = words(
+        alloc,
+        "basins --volume agglo_test.vol --labels agglo_test.lab --low 1",
+    )?;
     Ok(agglo(alloc, &words, &mut FileDesk::new(rt, alloc)))
 }
 

@@ -55,11 +55,13 @@ fn run<D: Desk>(alloc: Global, words: &[String], desk: &mut D) -> Result<(), Ref
         (λ refusal. RefusesRun (texts words.now) refusal (D.state desk.old) (D.state desk.new)) }
 {
     match read_words(alloc, words) {
-        Ok(Job::Basins {
-            volume,
-            labels,
-            low,
-        }) => run_basins(alloc, desk, volume.as_str(), labels.as_str(), low),
+        Ok(
+            Job::Basins {
+                volume,
+                labels,
+                low,
+            },
+        ) => run_basins(alloc, desk, volume.as_str(), labels.as_str(), low),
         Err(WordsFault::NoSettings) => Err(Refusal::Words),
         Err(WordsFault::Memory) => Err(Refusal::Memory),
     }

@@ -15,9 +15,9 @@ counted p v n m so_far here = here ∙ ap (λ k. k + cond (p v) 1 0) so_far ∙ 
 
 pub loop-v-preserved : goal.loop-v-preserved
 loop-v-preserved c = elim c.if-labels-v.branch [
-    then-labels-v w ↦ (omega arith, counted _ c.loop-v.v c.loop-v.basins _ c.loop-v.invariant.1 (grind (arith, nat_tests)))
+  | then-labels-v w ↦ (omega arith, counted _ c.loop-v.v c.loop-v.basins _ c.loop-v.invariant.1 (grind (arith, nat_tests)))
   | else-labels-v w ↦ (omega arith, counted _ c.loop-v.v c.loop-v.basins _ c.loop-v.invariant.1 (grind (arith, nat_tests)))
-  ]
+]
 
 pub returns : goal.returns
 returns c =

@@ -11,13 +11,13 @@ wrote_same : (name note : List ℕ) (axes axes' : Axes) (labels : List ℕ) (s t
     → WritesAnswer name (label_file axes labels) note s t → WritesAnswer name (label_file axes' labels) (basins_note labels) s t
 wrote_same name note axes axes' labels s t e f w =
     subst (λ (a : Axes). WritesAnswer name (label_file a labels) (basins_note labels) s t) e
-      (subst (λ (n : List ℕ). WritesAnswer name (label_file axes labels) n s t) f w)
+    (subst (λ (n : List ℕ). WritesAnswer name (label_file axes labels) n s t) f w)
 
 stopped_same : (name note : List ℕ) (axes axes' : Axes) (labels : List ℕ) (s t : DeskState) → axes ≡ axes' → note ≡ basins_note labels
     → StopsWriting name (label_file axes labels) note s t → StopsWriting name (label_file axes' labels) (basins_note labels) s t
 stopped_same name note axes axes' labels s t e f w =
     subst (λ (a : Axes). StopsWriting name (label_file a labels) (basins_note labels) s t) e
-      (subst (λ (n : List ℕ). StopsWriting name (label_file axes labels) n s t) f w)
+    (subst (λ (n : List ℕ). StopsWriting name (label_file axes labels) n s t) f w)
 
 pub returns-in-Ok : goal.returns-in-Ok
 returns-in-Ok g c = record {
