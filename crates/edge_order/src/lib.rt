@@ -4,9 +4,7 @@
 #![tactic(auto)]
 
 mod best;
-
 mod step;
 
 pub use best::{best_edge, stronger};
-
 pub use step::Step;

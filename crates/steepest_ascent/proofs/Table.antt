@@ -24,6 +24,6 @@ best_push g low v steps s best len is u lt = pick (eq-or-lt_of_le (omega (arith,
     pick : (u ≡ length steps) ⊎ (u < length steps) → IsBestStep g low u (get_or (steps ++ s ∷ []) u Stay)
     pick (inl last) =
         subst (λ t. IsBestStep g low u t) (sym (get_or_push steps s Stay u (sym last)))
-            (subst (λ w. IsBestStep g low w s) (sym len ∙ sym last) is)
+        (subst (λ w. IsBestStep g low w s) (sym len ∙ sym last) is)
     pick (inr within) =
         subst (λ t. IsBestStep g low u t) (sym (get_or_append_left steps (s ∷ []) Stay u within)) (best u within)

@@ -6,9 +6,11 @@ use Rattle.steepest_ascent.proofs.steps.best_steps.Given as goal
 abbrev pub invariant-loop-z : goal.invariant-loop-z
 invariant-loop-z l = record {
   so_far : length l.steps.items ≡ voxel_at l.vol.axes 0 0 l.z;
-  best : AreBestSteps l.vol l.low l.steps.items }
+  best : AreBestSteps l.vol l.low l.steps.items;
+}
 
 abbrev pub invariant-loop-y : goal.invariant-loop-y
 invariant-loop-y l = record {
   so_far : length l.steps.items ≡ voxel_at l.vol.axes 0 l.y l.z;
-  best : AreBestSteps l.vol l.low l.steps.items }
+  best : AreBestSteps l.vol l.low l.steps.items;
+}
