@@ -1,5 +1,5 @@
 -- The header of a volume file.
-use Rattle.std.proofs.Common.{◌≡◌, ℕ, ◌+◌, ◌<◌, ◌≤◌, ◌==◌, nat_lt, nat_eq, Bool, true, false, cond, List, length, take, drop, min, sum, get_or, Option, Some, None, IfSome, refl, sym, ap, ◌∙◌, subst, arith, inl, inr}
+use Rattle.std.proofs.Common.{◌≡◌, ℕ, ◌+◌, ◌<◌, ◌≤◌, ◌==◌, nat_lt, nat_eq, Bool, true, false, cond, List, length, take, drop, min, sum, Option, Some, None, IfSome, refl, sym, ap, ◌∙◌, subst, arith, inl, inr}
 use Rattle.std.specs.List.{list_all, starts_with}
 use Rattle.std.specs.Cmp.Lexicographic.{pointwise}
 use Rattle.std.specs.Option.{option_map}
@@ -9,7 +9,7 @@ use Rattle.std.proofs.lemmas.List.{take-take, drop-take, take_all, take_min, len
 use Rattle.std.proofs.lemmas.List.Folds.{sum_by-zero}
 use Rattle.agglo_model.specs.Axes.{Axes, AxesFlaw, AxisZero, AxisLarge, TooMany, axes_flaw}
 use Rattle.agglo_model.specs.VolumeFile.{VolumeFlaw, ShortHeader, Magic, Channels, Reserved, BadAxes, Truncated, Trailing, of_axes, volume_magic, u32_at, header_axes, channels, reserved, header_flaw}
-use Rattle.seg_io.specs.Desk.{DeskState, taken, Fills}
+use Rattle.seg_io.specs.Desk.{DeskState, Fills}
 use Rattle.volume_file.specs.declared.fault.VolumeFault.{VolumeFault}
 use Rattle.volume_file.specs.Fault.{fault_of}
 use Rattle.volume_file.specs.Reading.{ReadsHead, FindsBadHead, FailsToReadHead}

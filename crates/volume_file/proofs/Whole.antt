@@ -4,7 +4,7 @@ use Rattle.std.specs.Option.{option_map}
 use Rattle.agglo_model.specs.Axes.{Axes, edge_count}
 use Rattle.agglo_model.specs.Grid.{Grid}
 use Rattle.agglo_model.specs.VolumeFile.{VolumeFlaw, header_flaw, header_axes, body_flaw, body, first_of_two, volume_flaw, volume_in}
-use Rattle.seg_io.specs.Desk.{DeskState, taken, FailsAfterReading}
+use Rattle.seg_io.specs.Desk.{DeskState, taken}
 use Rattle.seg_io.proofs.States.{taken-taken}
 use Rattle.volume_file.specs.declared.fault.VolumeFault.{VolumeFault}
 use Rattle.volume_file.specs.declared.fault.VolumeFault.TheVariants.{ShortHeader, Magic, Channels, Reserved, AxisZero, AxisLarge, TooMany, Truncated, Trailing, Read, Memory}

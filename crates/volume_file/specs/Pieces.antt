@@ -2,7 +2,7 @@
 use Rattle.std.specs.Prelude.{◌≡◌, ℕ, ◌+◌, ◌<◌, ◌≤◌, nat_lt, Bool, List, ◌++◌, length, take, min, IfSome}
 use Rattle.seg_io.specs.Desk.{DeskState, taken, FailsAfterReading}
 use Rattle.volume_file.specs.declared.fault.VolumeFault.{VolumeFault}
-use Rattle.volume_file.specs.declared.fault.VolumeFault.TheVariants.{ShortHeader, Magic, Channels, Reserved, AxisZero, AxisLarge, TooMany, Truncated, Trailing, Read, Memory}
+use Rattle.volume_file.specs.declared.fault.VolumeFault.TheVariants.{Truncated, Read, Memory}
 use Rattle.volume_file.specs.Reading.{TakesSome}
 
 -- The first n bytes of the input were read, and taken off.

@@ -1,13 +1,13 @@
 -- What the calls that read a volume take off a desk's input, and what they answer. A desk may tell its
 -- input or not; what is said of the bytes is said where it does.
-use Rattle.std.specs.Prelude.{◌≡◌, ℕ, ◌+◌, List, [], Option, Some, None, IfSome}
+use Rattle.std.specs.Prelude.{◌≡◌, ℕ, ◌+◌, [], Some, None, IfSome}
 use Rattle.std.specs.Option.{option_map}
 use Rattle.agglo_model.specs.Axes.{Axes, edge_count}
 use Rattle.agglo_model.specs.Grid.{Grid}
 use Rattle.agglo_model.specs.VolumeFile.{header_length, header_axes, header_flaw, body_flaw, volume_flaw, volume_in}
 use Rattle.seg_io.specs.Desk.{DeskState, taken, FailsAfterReading}
 use Rattle.volume_file.specs.declared.fault.VolumeFault.{VolumeFault}
-use Rattle.volume_file.specs.declared.fault.VolumeFault.TheVariants.{ShortHeader, Magic, Channels, Reserved, AxisZero, AxisLarge, TooMany, Truncated, Trailing, Read, Memory}
+use Rattle.volume_file.specs.declared.fault.VolumeFault.TheVariants.{Truncated, Trailing, Read, Memory}
 use Rattle.volume_file.specs.Fault.{fault_of}
 
 -- some bytes were taken off the input, and nothing else happened

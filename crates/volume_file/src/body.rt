@@ -13,6 +13,9 @@ use std::alloc::Global;
 const PIECE_LENGTH: usize = 1 << 18;
 
 /// Reads the body that follows this header, up to the end of the input.
+///
+/// Answers `Truncated` or `Trailing` where the body has another length than the header says, `Read`
+/// or `Memory`. One byte after the body is read to find out whether there is one.
 pub fn read_body<D: Desk>(alloc: Global, desk: &mut D, head: Head) -> Result<Volume, VolumeFault>
     requires { (D.state desk.old).has_input ≡ true }
     ensures { MatchResult result

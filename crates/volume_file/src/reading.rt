@@ -22,7 +22,9 @@ const HEADER_LENGTH: usize = 32;
 /// How many affinities each voxel has.
 const CHANNELS: u32 = 3;
 
-/// Reads the header of a volume file, and nothing after it.
+/// Reads the header of a volume file, and nothing after it. It takes no memory.
+///
+/// Answers the first fault of the header, up to the number of voxels, or `Read`.
 pub fn read_head<D: Desk>(desk: &mut D) -> Result<Head, VolumeFault>
     requires { (D.state desk.old).has_input ≡ true }
     ensures { MatchResult result
@@ -34,7 +36,8 @@ pub fn read_head<D: Desk>(desk: &mut D) -> Result<Head, VolumeFault>
     head_of(&header[..got])
 }
 
-/// Reads a volume file to its end: the header, then the body.
+/// Reads a volume file to its end: the header, then the body. Answers the first fault of the file,
+/// `Read` or `Memory`.
 pub fn read_volume<D: Desk>(alloc: Global, desk: &mut D) -> Result<Volume, VolumeFault>
     requires { (D.state desk.old).has_input ≡ true }
     ensures { MatchResult result

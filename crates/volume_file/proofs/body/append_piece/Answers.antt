@@ -1,4 +1,4 @@
-use Rattle.std.proofs.Common.{sym, ap, ◌∙◌, arith}
+use Rattle.std.proofs.Common.{◌∙◌, arith}
 use Rattle.volume_file.proofs.BodyPieces.{appends_piece}
 use Rattle.volume_file.proofs.body.append_piece.Goals as goal
 

@@ -1,4 +1,3 @@
-use Rattle.std.proofs.Common.{◌∙◌}
 use Rattle.std.proofs.lemmas.Result.{err_from_is_err_and}
 use Rattle.volume_file.proofs.States.{fails_later}
 use Rattle.volume_file.proofs.BodyPieces.{no_body, trailing, reads_body}
