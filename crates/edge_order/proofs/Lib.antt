@@ -1,2 +1,3 @@
 pub mod Tracks
 pub mod Steps
+pub mod RowKeys

@@ -1,5 +1,8 @@
 -- The edges of one voxel as numbers: the greater number is that of the edge that comes before.
-use Rattle.std.specs.Prelude.{ℕ, ◌+◌, ◌*◌, ◌/◌, ◌%◌, ◌==◌, nat_lt, max, Bool, if◌then◌else◌}
+use Rattle.std.specs.Prelude.{ℕ, ◌+◌, ◌*◌, ◌/◌, ◌%◌, ◌<◌, ◌==◌, nat_lt, max, List, length, slice_index, Bool, if◌then◌else◌}
+use Rattle.agglo_model.specs.Axes.{voxel_at}
+use Rattle.agglo_model.specs.Grid.{Grid}
+use Rattle.edge_order.specs.Steps.{IsBestStep}
 use Rattle.edge_order.specs.declared.step.Step.{Step}
 use Rattle.edge_order.specs.declared.step.Step.TheVariants.{Stay, BackX, BackY, BackZ, OnX, OnY, OnZ}
 
@@ -28,3 +31,8 @@ step_of_rank r = if r == 7 then BackX else (if r == 6 then BackY else (if r == 5
 -- the step of the edge of this key, where its byte is at least low
 abbrev pub step_of_key : ℕ → ℕ → Step
 step_of_key low best = if nat_lt (best / 8) low then Stay else step_of_rank (best % 8)
+
+-- each entry is the greatest key at its voxel, in the row of voxels at y and z
+abbrev pub AreRowKeys : Grid → ℕ → ℕ → List ℕ → Type 0
+AreRowKeys g y z keys = (low x : ℕ) → x < length keys
+    → IsBestStep g low (voxel_at g.axes x y z) (step_of_key low (slice_index keys x))

@@ -4,7 +4,11 @@
 #![tactic(auto)]
 
 mod best;
+mod rows;
+
 mod step;
 
 pub use best::{best_edge, stronger};
+
+pub use rows::best_steps;
 pub use step::Step;
