@@ -23,13 +23,15 @@ higher_is e u c is lt = omega arith
 -- a step takes the edge between the voxel and the one to which it leads
 back_ends : (a : Axes) (v w c s e : ℕ) → c < 3 → stride a c ≡ s → w + s ≡ v → e ≡ 3 * v + c → AreEnds a e v w
 back_ends a v w c s e lt stride_is leads is = inr (
-    (lower_is a e v c is lt ∙ ap (λ k. v - k) stride_is ∙ omega arith) ,
-    higher_is e v c is lt)
+  (lower_is a e v c is lt ∙ ap (λ k. v - k) stride_is ∙ omega arith),
+  higher_is e v c is lt,
+)
 
 on_ends : (a : Axes) (v w c s e : ℕ) → c < 3 → stride a c ≡ s → w ≡ v + s → e ≡ 3 * (v + s) + c → AreEnds a e v w
 on_ends a v w c s e lt stride_is leads is = inl (
-    (lower_is a e (v + s) c is lt ∙ ap (λ k. v + s - k) stride_is ∙ omega arith) ,
-    (higher_is e (v + s) c is lt ∙ sym leads))
+  (lower_is a e (v + s) c is lt ∙ ap (λ k. v + s - k) stride_is ∙ omega arith),
+  (higher_is e (v + s) c is lt ∙ sym leads),
+)
 
 pub leads_across : (a : Axes) (v w e : ℕ) (s : Step) → LeadsTo a v s w → edge_at a v s ≡ Some e → AreEnds a e v w
 leads_across a v w e Stay leads is = absurd (cc)
@@ -98,9 +100,9 @@ edge_of_best g low v e s best is =
 
 pub has_edge : (a : Axes) (v : ℕ) (s : Step) → s ≢ Stay → (e : ℕ) × (edge_at a v s ≡ Some e)
 has_edge a v Stay ne = absurd (ne refl)
-has_edge a v BackX ne = (3 * v , refl)
-has_edge a v BackY ne = (3 * v + 1 , refl)
-has_edge a v BackZ ne = (3 * v + 2 , refl)
-has_edge a v OnX ne = (3 * (v + 1) , refl)
-has_edge a v OnY ne = (3 * (v + a.nx) + 1 , refl)
-has_edge a v OnZ ne = (3 * (v + a.nx * a.ny) + 2 , refl)
+has_edge a v BackX ne = (3 * v, refl)
+has_edge a v BackY ne = (3 * v + 1, refl)
+has_edge a v BackZ ne = (3 * v + 2, refl)
+has_edge a v OnX ne = (3 * (v + 1), refl)
+has_edge a v OnY ne = (3 * (v + a.nx) + 1, refl)
+has_edge a v OnZ ne = (3 * (v + a.nx * a.ny) + 2, refl)

@@ -1,11 +1,11 @@
 -- The greatest key of a voxel's edges, kept while the six are looked at in ascending order of number.
-use Rattle.std.proofs.Common.{◌≡◌, ◌≢◌, ℕ, ◌+◌, ◌*◌, ◌-◌, ◌/◌, ◌%◌, ◌^◌, ◌<◌, ◌≤◌, ◌⊎◌, ◌==◌, ◌&&◌, ◌||◌, if◌then◌else◌, Bool, true, false, nat_le, nat_lt, max, IsTrue, List, [], ◌∷◌, Option, Some, None, MatchOption, refl, sym, ◌∙◌, ap, subst, inl, inr, arith, add-zero, lit<, ltb-true, ltb-false, le-mul_of_pos_right}
+use Rattle.std.proofs.Common.{◌≡◌, ◌≢◌, ℕ, ◌+◌, ◌*◌, ◌/◌, ◌%◌, ◌^◌, ◌<◌, ◌≤◌, ◌⊎◌, ◌==◌, ◌&&◌, ◌||◌, if◌then◌else◌, Bool, true, false, nat_le, nat_lt, max, List, [], ◌∷◌, Some, MatchOption, refl, sym, ◌∙◌, ap, subst, inl, inr, arith, add-zero, lit<, ltb-true, ltb-false, le-mul_of_pos_right}
 use Rattle.std.proofs.lemmas.Bool.{cases_lt, cases_eq}
 use Rattle.std.proofs.lemmas.Bool.Decides.{nat_tests}
 use Rattle.agglo_model.specs.Axes.{Axes, IsWithinLimits, voxel_at, voxel_count, coordinate, edge_count, is_edge}
 use Rattle.agglo_model.specs.Grid.{Grid, affinity}
 use Rattle.agglo_model.specs.EdgeOrder.{EdgeBefore, IsBest, HasNoBest}
-use Rattle.agglo_model.proofs.Edges.{edge_back, edge_on, edge_is}
+use Rattle.agglo_model.proofs.Edges.{edge_on, edge_is}
 use Rattle.agglo_model.proofs.Neighbours.{back_edge, no_back_edge, on_edge_x, on_edge_y, on_edge_z, no_on_edge_x, no_on_edge_y, no_on_edge_z}
 use Rattle.agglo_model.proofs.Places.{place-voxel, voxel_at-place}
 use Rattle.agglo_model.proofs.BestEdge.{is_strong, IsIn, IsBestIn, takes, keeps, first_answers, best_at, none_at, clash, strong_test, strong_tells, edges_at, no_strong_no_best}
@@ -60,11 +60,13 @@ edge_more g v r e k es s (NoEdge zero none) lower edge above is =
       at = is;
       key_is = omega arith;
       ranked = omega arith;
-      best = first_answers g 0 e es none true (any_strong (is_edge g.axes e) (affinity g e) edge) })
+      best = first_answers g 0 e es none true (any_strong (is_edge g.axes e) (affinity g e) edge);
+    })
 edge_more g v r e k es s (AnEdge t b h) lower edge above is = pick (cases_lt (affinity g b) (affinity g e))
   where
     after : affinity g e ≤ affinity g b → b < e → EdgeBefore g b e
     after le lt = grind arith
+
     pick : (affinity g b < affinity g e) ⊎ (affinity g e ≤ affinity g b)
         → Tracks g v (rank s) (e ∷ es) (max k (key (affinity g e) s))
     pick (inl up) = AnEdge s e (record {
@@ -72,12 +74,14 @@ edge_more g v r e k es s (AnEdge t b h) lower edge above is = pick (cases_lt (af
       key_is = omega (arith, h.key_is, rank-le t);
       ranked = omega arith;
       best = takes g 0 e b es h.best (any_strong (is_edge g.axes e) (affinity g e) edge)
-          (greater_first (affinity g e) (affinity g b) e b up) })
+          (greater_first (affinity g e) (affinity g b) e b up);
+    })
     pick (inr le) = AnEdge t b (record {
       at = h.at;
       key_is = omega (arith, h.key_is, h.ranked);
       ranked = omega (arith, h.ranked);
-      best = keeps g 0 e b es h.best (λ strong ne. after le (above_at e b es above h.best.stands)) })
+      best = keeps g 0 e b es h.best (λ strong ne. after le (above_at e b es above h.best.stands));
+    })
 
 -- one number more that is no edge
 no_edge_more : (g : Grid) (v r e k : ℕ) (es : List ℕ) (s : Step) → Tracks g v r es k → rank s < r
@@ -86,13 +90,15 @@ no_edge_more g v r e k es s h lower is = skip h
   where
     weak : is_strong g 0 e ≡ false
     weak = ap (λ b. b && nat_le 0 (affinity g e)) is
+
     skip : Tracks g v r es k → Tracks g v (rank s) (e ∷ es) k
     skip (NoEdge zero none) = NoEdge zero (first_answers g 0 e es none false weak)
     skip (AnEdge t b h) = AnEdge t b (record {
       at = h.at;
       key_is = h.key_is;
       ranked = omega (arith, h.ranked);
-      best = keeps g 0 e b es h.best (λ strong ne. clash (is_strong g 0 e) strong weak) })
+      best = keeps g 0 e b es h.best (λ strong ne. clash (is_strong g 0 e) strong weak);
+    })
 
 pub tracks_raised : (g : Grid) (v r e k : ℕ) (es : List ℕ) (s : Step) (exists : Bool) → Tracks g v r es k
     → rank s < r → is_edge g.axes e ≡ exists → IsAbove e es → edge_at g.axes v s ≡ Some e
@@ -160,7 +166,8 @@ strong_best g low v e b le = best_at g low v e (record {
   stands = six_in g.axes v e b.stands;
   strong = strong_test (is_edge g.axes e) low (affinity g e)
       (strong_tells (is_edge g.axes e) 0 (affinity g e) b.strong).0 le;
-  first = λ f m s ne. b.first f (in_six g.axes v f m) (at_least_zero (is_edge g.axes f) low (affinity g f) s) ne })
+  first = λ f m s ne. b.first f (in_six g.axes v f m) (at_least_zero (is_edge g.axes f) low (affinity g f) s) ne;
+})
 
 -- and else there is none
 none_strong : (g : Grid) (low v e : ℕ) → IsBestIn g 0 (seen_six g.axes v) e → affinity g e < low
@@ -169,6 +176,7 @@ none_strong g low v e b less f m = not_strong (is_strong g low f) (λ s. refuse 
   where
     over : is_strong g low f ≡ true → low ≤ affinity g f
     over s = (strong_tells (is_edge g.axes f) low (affinity g f) s).1
+
     refuse : is_strong g low f ≡ true → (f ≡ e) ⊎ (f ≢ e) → ⊥
     refuse s (inl same) =
         let h = subst (λ u. low ≤ affinity g u) same (over s) in omega arith
@@ -181,8 +189,8 @@ pub tracks_all : (g : Grid) (low v r k : ℕ) → Tracks g v r (seen_six g.axes 
     → IsBestStep g low v (step_of_key low k)
 tracks_all g low v r k (NoEdge zero none) =
     subst (λ n. IsBestStep g low v (step_of_key low n)) (sym zero)
-        (subst (λ s. IsBestStep g low v s) (sym (either_stays (nat_lt 0 low)))
-            (stays g low v (λ f m. weaker f (none f (in_six g.axes v f m)))))
+    (subst (λ s. IsBestStep g low v s) (sym (either_stays (nat_lt 0 low)))
+    (stays g low v (λ f m. weaker f (none f (in_six g.axes v f m)))))
   where
     weaker : (f : ℕ) → is_strong g 0 f ≡ false → is_strong g low f ≡ false
     weaker f weak = not_strong (is_strong g low f) (λ s.
@@ -191,18 +199,21 @@ tracks_all g low v r k (AnEdge s e h) = pick (nat_lt (affinity g e) low) refl
   where
     byte : k / 8 ≡ affinity g e
     byte = omega (arith, h.key_is, rank-le s)
+
     step : k % 8 ≡ rank s
     step = omega (arith, h.key_is, rank-le s)
+
     told : step_of_key low k ≡ (if nat_lt (affinity g e) low then Stay else s)
     told = ap (λ n. if nat_lt n low then Stay else step_of_rank (k % 8)) byte
         ∙ ap (λ n. if nat_lt (affinity g e) low then Stay else step_of_rank n) step
         ∙ ap (λ t. if nat_lt (affinity g e) low then Stay else t) (rank_back s)
+
     pick : (b : Bool) → nat_lt (affinity g e) low ≡ b → IsBestStep g low v (step_of_key low k)
     pick true is = subst (λ t. IsBestStep g low v t) (sym (told ∙ ap (λ b. if b then Stay else s) is))
         (stays g low v (none_strong g low v e h.best (ltb-true (affinity g e) low is)))
     pick false is = subst (λ t. IsBestStep g low v t) (sym (told ∙ ap (λ b. if b then Stay else s) is))
         (subst (λ o. MatchOption o (HasNoBest g low v) (λ f. IsBest g low v f)) (sym h.at)
-            (strong_best g low v e h.best (ltb-false (affinity g e) low is)))
+        (strong_best g low v e h.best (ltb-false (affinity g e) low is)))
 
 -- whether the six numbers are edges, by the place of v
 by_test : (t e : Bool) → (t ≡ true → e ≡ true) → (t ≡ false → e ≡ false) → e ≡ t
@@ -229,33 +240,33 @@ pub edge_on_x : (a : Axes) (v : ℕ) → IsWithinLimits a → v < voxel_count a
     → is_edge a (3 * (v + 1)) ≡ nat_lt (coordinate a v 0 + 1) a.nx
 edge_on_x a v limits below = by_test (nat_lt (coordinate a v 0 + 1) a.nx) (is_edge a (3 * (v + 1)))
     (λ t. subst (λ e. is_edge a e ≡ true) (add-zero (3 * (v + 1)))
-        (at_place a v (λ u. is_edge a (edge_on a u 0) ≡ true)
-            (on_edge_x a (coordinate a v 0) (coordinate a v 1) (coordinate a v 2) (place-voxel a v limits below)
-                (ltb-true (coordinate a v 0 + 1) a.nx t))))
+    (at_place a v (λ u. is_edge a (edge_on a u 0) ≡ true)
+    (on_edge_x a (coordinate a v 0) (coordinate a v 1) (coordinate a v 2) (place-voxel a v limits below)
+    (ltb-true (coordinate a v 0 + 1) a.nx t))))
     (λ t. subst (λ e. is_edge a e ≡ false) (add-zero (3 * (v + 1)))
-        (at_place a v (λ u. is_edge a (edge_on a u 0) ≡ false)
-            (no_on_edge_x a (coordinate a v 0) (coordinate a v 1) (coordinate a v 2) (place-voxel a v limits below)
-                (ltb-false (coordinate a v 0 + 1) a.nx t))))
+    (at_place a v (λ u. is_edge a (edge_on a u 0) ≡ false)
+    (no_on_edge_x a (coordinate a v 0) (coordinate a v 1) (coordinate a v 2) (place-voxel a v limits below)
+    (ltb-false (coordinate a v 0 + 1) a.nx t))))
 
 pub edge_on_y : (a : Axes) (v : ℕ) → IsWithinLimits a → v < voxel_count a
     → is_edge a (3 * (v + a.nx) + 1) ≡ nat_lt (coordinate a v 1 + 1) a.ny
 edge_on_y a v limits below = by_test (nat_lt (coordinate a v 1 + 1) a.ny) (is_edge a (3 * (v + a.nx) + 1))
     (λ t. at_place a v (λ u. is_edge a (edge_on a u 1) ≡ true)
-        (on_edge_y a (coordinate a v 0) (coordinate a v 1) (coordinate a v 2) (place-voxel a v limits below)
-            (ltb-true (coordinate a v 1 + 1) a.ny t)))
+    (on_edge_y a (coordinate a v 0) (coordinate a v 1) (coordinate a v 2) (place-voxel a v limits below)
+    (ltb-true (coordinate a v 1 + 1) a.ny t)))
     (λ t. at_place a v (λ u. is_edge a (edge_on a u 1) ≡ false)
-        (no_on_edge_y a (coordinate a v 0) (coordinate a v 1) (coordinate a v 2) (place-voxel a v limits below)
-            (ltb-false (coordinate a v 1 + 1) a.ny t)))
+    (no_on_edge_y a (coordinate a v 0) (coordinate a v 1) (coordinate a v 2) (place-voxel a v limits below)
+    (ltb-false (coordinate a v 1 + 1) a.ny t)))
 
 pub edge_on_z : (a : Axes) (v : ℕ) → IsWithinLimits a → v < voxel_count a
     → is_edge a (3 * (v + a.nx * a.ny) + 2) ≡ nat_lt (coordinate a v 2 + 1) a.nz
 edge_on_z a v limits below = by_test (nat_lt (coordinate a v 2 + 1) a.nz) (is_edge a (3 * (v + a.nx * a.ny) + 2))
     (λ t. at_place a v (λ u. is_edge a (edge_on a u 2) ≡ true)
-        (on_edge_z a (coordinate a v 0) (coordinate a v 1) (coordinate a v 2) (place-voxel a v limits below)
-            (ltb-true (coordinate a v 2 + 1) a.nz t)))
+    (on_edge_z a (coordinate a v 0) (coordinate a v 1) (coordinate a v 2) (place-voxel a v limits below)
+    (ltb-true (coordinate a v 2 + 1) a.nz t)))
     (λ t. at_place a v (λ u. is_edge a (edge_on a u 2) ≡ false)
-        (no_on_edge_z a (coordinate a v 0) (coordinate a v 1) (coordinate a v 2) (place-voxel a v limits below)
-            (ltb-false (coordinate a v 2 + 1) a.nz t)))
+    (no_on_edge_z a (coordinate a v 0) (coordinate a v 1) (coordinate a v 2) (place-voxel a v limits below)
+    (ltb-false (coordinate a v 2 + 1) a.nz t)))
 
 -- the numbers of edges are below the count
 pub edge_below : (a : Axes) (e : ℕ) (t : Bool) → is_edge a e ≡ t → t ≡ true → e < edge_count a
@@ -264,9 +275,10 @@ edge_below a e t is holds = (edge_is a e (is ∙ holds)).numbered
 pub layer-le : (a : Axes) → IsWithinLimits a → (a.nx ≤ a.nx * a.ny) × (a.nx * a.ny ≤ 2 ^ 28)
 layer-le a limits =
     let some : 0 < a.ny = limits.some_y in
-    let deep : 0 < a.nz = limits.some_z in
-    (omega (arith, le-mul_of_pos_right a.nx some) ,
-     omega (arith, le-mul_of_pos_right (a.nx * a.ny) deep, limits.most_voxels))
+    let deep : 0 < a.nz = limits.some_z in (
+      omega (arith, le-mul_of_pos_right a.nx some),
+      omega (arith, le-mul_of_pos_right (a.nx * a.ny) deep, limits.most_voxels),
+    )
 
 -- one after the other: the sixth key tells the step of the best edge
 pub best_of_six : (g : Grid) (low v k1 k2 k3 k4 k5 k6 : ℕ)
@@ -284,11 +296,11 @@ best_of_six g low v k1 k2 k3 k4 k5 k6 limits below e1 e2 e3 e4 e5 e6 =
     let some : 0 < a.nx = limits.some_x in
     let t0 : Tracks g v 8 [] 0 = NoEdge refl (λ f m. absurd m) in
     let t1 = on_to k1 BackX 8 (3 * v) [] 0 (nat_lt 0 (coordinate a v 0)) e1 t0 (omega arith) (edge_back_x a v below) tt refl in
-    let t2 = on_to k2 BackY 7 (3 * v + 1) (3 * v ∷ []) k1 (nat_lt 0 (coordinate a v 1)) e2 t1 (omega arith) (edge_back_at a v 1 below (lit< tt)) (omega arith , tt) refl in
-    let t3 = on_to k3 BackZ 6 (3 * v + 2) ((3 * v + 1) ∷ 3 * v ∷ []) k2 (nat_lt 0 (coordinate a v 2)) e3 t2 (omega arith) (edge_back_at a v 2 below (lit< tt)) (omega arith , (omega arith , tt)) refl in
-    let t4 = on_to k4 OnX 5 (3 * (v + 1)) (seen_three v) k3 (nat_lt (coordinate a v 0 + 1) a.nx) e4 t3 (omega arith) (edge_on_x a v limits below) (omega arith , (omega arith , (omega arith , tt))) refl in
-    let t5 = on_to k5 OnY 4 (3 * (v + a.nx) + 1) ((3 * (v + 1)) ∷ seen_three v) k4 (nat_lt (coordinate a v 1 + 1) a.ny) e5 t4 (omega arith) (edge_on_y a v limits below) (omega arith , (omega arith , (omega arith , (omega arith , tt)))) refl in
-    let t6 = on_to k6 OnZ 3 (3 * (v + a.nx * a.ny) + 2) ((3 * (v + a.nx) + 1) ∷ (3 * (v + 1)) ∷ seen_three v) k5 (nat_lt (coordinate a v 2 + 1) a.nz) e6 t5 (omega arith) (edge_on_z a v limits below) (omega arith , (omega arith , (omega arith , (omega arith , (omega arith , tt))))) refl in
+    let t2 = on_to k2 BackY 7 (3 * v + 1) (3 * v ∷ []) k1 (nat_lt 0 (coordinate a v 1)) e2 t1 (omega arith) (edge_back_at a v 1 below (lit< tt)) (omega arith, tt) refl in
+    let t3 = on_to k3 BackZ 6 (3 * v + 2) ((3 * v + 1) ∷ 3 * v ∷ []) k2 (nat_lt 0 (coordinate a v 2)) e3 t2 (omega arith) (edge_back_at a v 2 below (lit< tt)) (omega arith, (omega arith, tt)) refl in
+    let t4 = on_to k4 OnX 5 (3 * (v + 1)) (seen_three v) k3 (nat_lt (coordinate a v 0 + 1) a.nx) e4 t3 (omega arith) (edge_on_x a v limits below) (omega arith, (omega arith, (omega arith, tt))) refl in
+    let t5 = on_to k5 OnY 4 (3 * (v + a.nx) + 1) ((3 * (v + 1)) ∷ seen_three v) k4 (nat_lt (coordinate a v 1 + 1) a.ny) e5 t4 (omega arith) (edge_on_y a v limits below) (omega arith, (omega arith, (omega arith, (omega arith, tt)))) refl in
+    let t6 = on_to k6 OnZ 3 (3 * (v + a.nx * a.ny) + 2) ((3 * (v + a.nx) + 1) ∷ (3 * (v + 1)) ∷ seen_three v) k5 (nat_lt (coordinate a v 2 + 1) a.nz) e6 t5 (omega arith) (edge_on_z a v limits below) (omega arith, (omega arith, (omega arith, (omega arith, (omega arith, tt))))) refl in
     tracks_all g low v 2 k6 t6
   where
     on_to : (after : ℕ) (s : Step) (r e : ℕ) (es : List ℕ) (before : ℕ) (exists : Bool)

@@ -48,8 +48,9 @@ label_there g low v labels right ne = elim (right v) [ inl none ↦ absurd (ne n
 pub given_stays : (labels : List ℕ) (v w label : ℕ) → w < length labels → label_of labels v ≡ label
     → label_of (set labels w label) v ≡ label
 given_stays labels v w label lt is = elim (cases_eq v w) [
-    inl same ↦ ap (label_of (set labels w label)) same ∙ get_or-set_same labels w label 0 lt
-  | inr ne ↦ get_or-set_other labels w v label 0 ne ∙ is ]
+  | inl same ↦ ap (label_of (set labels w label)) same ∙ get_or-set_same labels w label 0 lt
+  | inr ne ↦ get_or-set_other labels w v label 0 ne ∙ is
+]
 
 pub gains_more : (g : Grid) (low : ℕ) (before labels : List ℕ) (w label : ℕ) → w < length labels
     → GainsRightLabels g low before labels → IsLabelOf g low w label
@@ -62,7 +63,7 @@ gains_more g low before labels w label lt gains is v = pick (cases_eq v w)
         (subst (λ l. IsLabelOf g low w l) (sym (get_or-set_same labels w label 0 lt)) is))
     pick (inr ne) =
         subst (λ l. (l ≡ label_of before v) ⊎ IsLabelOf g low v l)
-            (sym (get_or-set_other labels w v label 0 ne)) (gains v)
+        (sym (get_or-set_other labels w v label 0 ne)) (gains v)
 
 -- labels that were right stay so
 pub right_stays : (g : Grid) (low : ℕ) (before after : List ℕ) → AreRightSoFar g low before
@@ -85,6 +86,7 @@ passed_one_more g low i before after passed gains here u lt = at (eq-or-lt_of_le
         → IsLabelOf g low u (label_of after u)
     below less (inl same) = subst (λ l. IsLabelOf g low u l) (sym same) (passed u less)
     below less (inr is) = is
+
     at : (u ≡ i) ⊎ (u < i) → IsLabelOf g low u (label_of after u)
     at (inl same) = subst (λ w. IsLabelOf g low w (label_of after w)) (sym same) here
     at (inr less) = below less (gains u)

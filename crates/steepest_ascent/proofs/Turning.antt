@@ -11,7 +11,7 @@ use Rattle.edge_order.specs.Steps.{edge_at, IsBestStep, reversed, LeadsTo}
 use Rattle.edge_order.proofs.Steps.{leads_across, reversed_edge, same_step, edge_of_best, has_edge}
 use Rattle.edge_order.specs.declared.step.Step.{Step}
 use Rattle.edge_order.specs.declared.step.Step.TheVariants.{Stay, BackY, BackZ}
-use Rattle.steepest_ascent.specs.Steps.{AreBestSteps}
+use Rattle.edge_order.specs.Steps.{AreBestSteps}
 use Rattle.steepest_ascent.specs.Turns.{EndsWith, ClimbsTo}
 
 -- a voxel with an edge to its predecessor on an axis has a number of at least the stride
@@ -56,8 +56,8 @@ step_read g low v steps s best lt is =
 
 -- the lower end is the lesser of both
 least_end : (a : Axes) (e v w : ℕ) → lower_end a e < higher_end e → AreEnds a e v w → min v w ≡ lower_end a e
-least_end a e v w lt (inl (l , h)) = omega arith
-least_end a e v w lt (inr (l , h)) = omega arith
+least_end a e v w lt (inl (l, h)) = omega arith
+least_end a e v w lt (inr (l, h)) = omega arith
 
 -- both ends step along the same edge
 pub ends_with : (g : Grid) (low v w name : ℕ) (s t : Step) → IsBestStep g low v s → s ≢ Stay
@@ -69,14 +69,15 @@ ends_with g low v w name s t best ne leads far back name_is =
     let b : IsBest g low v e = edge_of_best g low v e s best edge.1 in
     let ends : AreEnds g.axes e v w = leads_across g.axes v w e s leads edge.1 in
     let back_is : edge_at g.axes w t ≡ Some e =
-        ap (edge_at g.axes w) back ∙ reversed_edge g.axes v w s leads ∙ edge.1 in
+    ap (edge_at g.axes w) back ∙ reversed_edge g.axes v w s leads ∙ edge.1 in
     record {
       edge = e;
       far = w;
       best = b;
       ends = ends;
       both = edge_of_best g low w e t far back_is;
-      name_is = name_is ∙ ap (λ x. x + 1) (least_end g.axes e v w (lower_below_higher g.axes e b.strong.edge) ends) }
+      name_is = name_is ∙ ap (λ x. x + 1) (least_end g.axes e v w (lower_below_higher g.axes e b.strong.edge) ends);
+    }
 
 -- the far end steps along another edge
 pub climbs_to : (g : Grid) (low v w : ℕ) (s t : Step) → IsWithinLimits g.axes → IsBestStep g low v s → s ≢ Stay
@@ -89,7 +90,7 @@ climbs_to g low v w s t limits best ne leads far other =
     let back_is : edge_at g.axes w (reversed s) ≡ Some e = reversed_edge g.axes v w s leads ∙ edge.1 in
     let there = best_of_strong g low w e (strong_across g low e v w ends b.strong) in
     let moves : t ≢ Stay = λ stays.
-          (let none : HasNoBest g low w = subst (λ u. IsBestStep g low w u) stays far in none there.0 there.1) in
+    (let none : HasNoBest g low w = subst (λ u. IsBestStep g low w u) stays far in none there.0 there.1) in
     let next = has_edge g.axes w t moves in
     record {
       edge = e;
@@ -98,4 +99,5 @@ climbs_to g low v w s t limits best ne leads far other =
       ends = ends;
       far_best = edge_of_best g low w next.0 t far next.1;
       other = λ same. other (same_step g.axes w e t (reversed s) limits
-          (next.1 ∙ ap {B = Option ℕ} Some same) back_is) }
+          (next.1 ∙ ap {B = Option ℕ} Some same) back_is);
+    }

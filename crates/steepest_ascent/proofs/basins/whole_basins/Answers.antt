@@ -14,13 +14,13 @@ of-requires-2-clause-labels_fit c =
     let ws : List ℕ = c.settle_all.new.labels in
     let same = c.settle_all.auto.labels ∙ c.deref_mut.ensures.len in
     let len : length ws ≡ voxel_count g.axes =
-        same ∙ c.in_ok-labels.ensures.len ∙ c.voxels.ensures.value ∙ ap voxel_count c.dims.ensures.value in
+    same ∙ c.in_ok-labels.ensures.len ∙ c.voxels.ensures.value ∙ ap voxel_count c.dims.ensures.value in
     let right : (v : ℕ) → v < length ws → IsLabelOf g c.args.low v (label_of ws v) =
-        subst (λ (t : Terrain). (v : ℕ) → v < length ws → IsLabelOf t.grid t.low v (label_of ws v))
-            c.in_ok-ascent.ensures c.settle_all.ensures in
+    subst (λ (t : Terrain). (v : ℕ) → v < length ws → IsLabelOf t.grid t.low v (label_of ws v))
+    c.in_ok-ascent.ensures c.settle_all.ensures in
     subst (λ (l : List ℕ). (v : ℕ) → v < length l → label_of l v ≤ 2 ^ 28)
-        (sym (written_over c.in_ok-labels.labels.len ws c.in_ok-labels.labels.items same))
-        (basins_fit g c.args.low ws c.dims-2.ensures.whole (all_right g c.args.low ws len right))
+    (sym (written_over c.in_ok-labels.labels.len ws c.in_ok-labels.labels.items same))
+    (basins_fit g c.args.low ws c.dims-2.ensures.whole (all_right g c.args.low ws len right))
 
 pub returns-clause-basins : goal.returns-clause-basins
 returns-clause-basins c =
@@ -28,10 +28,10 @@ returns-clause-basins c =
     let ws : List ℕ = c.settle_all.new.labels in
     let same = c.settle_all.auto.labels ∙ c.deref_mut.ensures.len in
     let len : length ws ≡ voxel_count g.axes =
-        same ∙ c.in_ok-labels.ensures.len ∙ c.voxels.ensures.value ∙ ap voxel_count c.dims.ensures.value in
+    same ∙ c.in_ok-labels.ensures.len ∙ c.voxels.ensures.value ∙ ap voxel_count c.dims.ensures.value in
     let right : (v : ℕ) → v < length ws → IsLabelOf g c.args.low v (label_of ws v) =
-        subst (λ (t : Terrain). (v : ℕ) → v < length ws → IsLabelOf t.grid t.low v (label_of ws v))
-            c.in_ok-ascent.ensures c.settle_all.ensures in
+    subst (λ (t : Terrain). (v : ℕ) → v < length ws → IsLabelOf t.grid t.low v (label_of ws v))
+    c.in_ok-ascent.ensures c.settle_all.ensures in
     let list_is = ap (λ (m : LabelMap). m.labels) c.of-2.ensures
-        ∙ written_over c.in_ok-labels.labels.len ws c.in_ok-labels.labels.items same in
+    ∙ written_over c.in_ok-labels.labels.len ws c.in_ok-labels.labels.items same in
     subst (λ l. AreBasins g c.args.low l) (sym list_is) (all_right g c.args.low ws len right)

@@ -15,11 +15,12 @@ loop-next-preserved c =
     let w = c.in-Climbs.next in
     let voxel = next_voxel t.grid t.low c.loop-next.here w c.in-Climbs.ensures.turn in
     let len : length c.loop-next.labels ≡ voxel_count t.grid.axes =
-        c.loop-next.auto.labels ∙ length-set c.args.labels.now c.args.v c.args.label ∙ c.requires.one_each in
+    c.loop-next.auto.labels ∙ length-set c.args.labels.now c.args.v c.args.label ∙ c.requires.one_each in
     let within : w < length c.loop-next.labels = subst (λ n. w < n) (sym len) voxel in
     let right = label_on t.grid t.low c.loop-next.here w c.args.label c.in-Climbs.ensures.turn c.loop-next.invariant.right in
     record {
       voxel = voxel;
       right = right;
       given = given_stays c.loop-next.labels c.args.v w c.args.label within c.loop-next.invariant.given;
-      gains = gains_more t.grid t.low c.args.labels.now c.loop-next.labels w c.args.label within c.loop-next.invariant.gains right }
+      gains = gains_more t.grid t.low c.args.labels.now c.loop-next.labels w c.args.label within c.loop-next.invariant.gains right;
+    }

@@ -10,7 +10,8 @@ invariant-loop-next l = record {
   voxel : l.here < voxel_count l.self.grid.axes;
   right : IsLabelOf l.self.grid l.self.low l.here l.label;
   given : label_of l.labels l.v ≡ l.label;
-  gains : GainsRightLabels l.self.grid l.self.low l.fn.labels l.labels }
+  gains : GainsRightLabels l.self.grid l.self.low l.fn.labels l.labels;
+}
 
 abbrev pub decreases-loop-next : goal.decreases-loop-next
 decreases-loop-next l = standing 255 l.self.grid l.self.low l.here

@@ -7,14 +7,14 @@ pub returns-in-Ends : goal.returns-in-Ends
 returns-in-Ends c =
     let t : Terrain = c.args.self.now in
     λ basins are. label_at_end t.grid t.low c.loop-name.here c.in-Ends.name c.in-Ends.ensures.turn basins are
-        ∙ c.loop-name.invariant.same_label basins are
+    ∙ c.loop-name.invariant.same_label basins are
 
 pub returns-then-label-ne0 : goal.returns-then-label-ne0
 returns-then-label-ne0 c =
     let t : Terrain = c.args.self.now in
     λ basins are. label_there t.grid t.low c.in-Climbs.next c.args.labels.now c.requires.right c.if-label-ne0.true basins are
-        ∙ sym (label_along t.grid t.low c.loop-name.here c.in-Climbs.next c.in-Climbs.ensures.turn basins are)
-        ∙ c.loop-name.invariant.same_label basins are
+    ∙ sym (label_along t.grid t.low c.loop-name.here c.in-Climbs.next c.in-Climbs.ensures.turn basins are)
+    ∙ c.loop-name.invariant.same_label basins are
 
 pub loop-name-smaller : goal.loop-name-smaller
 loop-name-smaller c =
@@ -28,4 +28,5 @@ loop-name-preserved c =
       voxel = next_voxel t.grid t.low c.loop-name.here c.in-Climbs.next c.in-Climbs.ensures.turn;
       same_label = λ basins are.
           sym (label_along t.grid t.low c.loop-name.here c.in-Climbs.next c.in-Climbs.ensures.turn basins are)
-          ∙ c.loop-name.invariant.same_label basins are }
+          ∙ c.loop-name.invariant.same_label basins are;
+    }

@@ -8,7 +8,8 @@ abbrev pub invariant-loop-name : goal.invariant-loop-name
 invariant-loop-name l = record {
   voxel : l.here < voxel_count l.self.grid.axes;
   same_label : (basins : List ℕ) → AreBasins l.self.grid l.self.low basins
-      → label_of basins l.here ≡ label_of basins l.v }
+      → label_of basins l.here ≡ label_of basins l.v;
+}
 
 abbrev pub decreases-loop-name : goal.decreases-loop-name
 decreases-loop-name l = standing 255 l.self.grid l.self.low l.here

@@ -8,4 +8,5 @@ loop-v-preserved c =
     record {
       right = right_stays t.grid t.low c.loop-v.labels c.settle.new.labels c.loop-v.invariant.right c.settle.ensures.gains;
       passed = passed_one_more t.grid t.low c.loop-v.v c.loop-v.labels c.settle.new.labels
-          c.loop-v.invariant.passed c.settle.ensures.gains c.settle.ensures.settled }
+          c.loop-v.invariant.passed c.settle.ensures.gains c.settle.ensures.settled;
+    }

@@ -12,36 +12,36 @@ returns-then-eq-2-clause-turn c =
     let t : Terrain = c.args.self.now in
     let steps = c.self.inside.steps.items in
     let charted : IsCharted t c.self.inside.row c.self.inside.layer steps =
-        subst (λ u. IsCharted u c.self.inside.row c.self.inside.layer steps) c.self.view_is c.self.invariant in
+    subst (λ u. IsCharted u c.self.inside.row c.self.inside.layer steps) c.self.view_is c.self.invariant in
     let here : IsBestStep t.grid t.low c.args.v c.index.result.now =
-        step_read t.grid t.low c.args.v steps c.index.result.now charted.best
-            (subst (λ n. c.args.v < n) (sym charted.one_each) c.requires) c.index.ensures in
+    step_read t.grid t.low c.args.v steps c.index.result.now charted.best
+    (subst (λ n. c.args.v < n) (sym charted.one_each) c.requires) c.index.ensures in
     let there : IsBestStep t.grid t.low c.far_end-far.result c.index-2.result.now =
-        step_read t.grid t.low c.far_end-far.result steps c.index-2.result.now charted.best
-            (subst (λ n. c.far_end-far.result < n) (sym charted.one_each) c.far_end-far.ensures.voxel) c.index-2.ensures in
+    step_read t.grid t.low c.far_end-far.result steps c.index-2.result.now charted.best
+    (subst (λ n. c.far_end-far.result < n) (sym charted.one_each) c.far_end-far.ensures.voxel) c.index-2.ensures in
     let moves : c.index.result.now ≢ Stay =
-        same_false the_type c.index.result.now Stay (sym c.eq.ensures ∙ c.if-eq.false) in
+    same_false the_type c.index.result.now Stay (sym c.eq.ensures ∙ c.if-eq.false) in
     let back : c.index-2.result.now ≡ c.reversed.result =
-        same_true the_type (search rules) c.index-2.result.now c.reversed.result (sym c.eq-2.ensures ∙ c.if-eq-2.true) in
+    same_true the_type (search rules) c.index-2.result.now c.reversed.result (sym c.eq-2.ensures ∙ c.if-eq-2.true) in
     ends_with t.grid t.low c.args.v c.far_end-far.result (c.min.result + 1) c.index.result.now c.index-2.result.now
-        here moves c.far_end-far.ensures.leads there (back ∙ c.reversed.ensures) (ap (λ n. n + 1) c.min.ensures)
+    here moves c.far_end-far.ensures.leads there (back ∙ c.reversed.ensures) (ap (λ n. n + 1) c.min.ensures)
 
 pub returns-else-eq-2-clause-turn : goal.returns-else-eq-2-clause-turn
 returns-else-eq-2-clause-turn c =
     let t : Terrain = c.args.self.now in
     let steps = c.self.inside.steps.items in
     let charted : IsCharted t c.self.inside.row c.self.inside.layer steps =
-        subst (λ u. IsCharted u c.self.inside.row c.self.inside.layer steps) c.self.view_is c.self.invariant in
+    subst (λ u. IsCharted u c.self.inside.row c.self.inside.layer steps) c.self.view_is c.self.invariant in
     let here : IsBestStep t.grid t.low c.args.v c.index.result.now =
-        step_read t.grid t.low c.args.v steps c.index.result.now charted.best
-            (subst (λ n. c.args.v < n) (sym charted.one_each) c.requires) c.index.ensures in
+    step_read t.grid t.low c.args.v steps c.index.result.now charted.best
+    (subst (λ n. c.args.v < n) (sym charted.one_each) c.requires) c.index.ensures in
     let there : IsBestStep t.grid t.low c.far_end-far.result c.index-2.result.now =
-        step_read t.grid t.low c.far_end-far.result steps c.index-2.result.now charted.best
-            (subst (λ n. c.far_end-far.result < n) (sym charted.one_each) c.far_end-far.ensures.voxel) c.index-2.ensures in
+    step_read t.grid t.low c.far_end-far.result steps c.index-2.result.now charted.best
+    (subst (λ n. c.far_end-far.result < n) (sym charted.one_each) c.far_end-far.ensures.voxel) c.index-2.ensures in
     let moves : c.index.result.now ≢ Stay =
-        same_false the_type c.index.result.now Stay (sym c.eq.ensures ∙ c.if-eq.false) in
+    same_false the_type c.index.result.now Stay (sym c.eq.ensures ∙ c.if-eq.false) in
     let other : c.index-2.result.now ≢ reversed c.index.result.now = λ is.
-          same_false the_type c.index-2.result.now c.reversed.result (sym c.eq-2.ensures ∙ c.if-eq-2.false)
-              (is ∙ sym c.reversed.ensures) in
+    same_false the_type c.index-2.result.now c.reversed.result (sym c.eq-2.ensures ∙ c.if-eq-2.false)
+    (is ∙ sym c.reversed.ensures) in
     climbs_to t.grid t.low c.args.v c.far_end-far.result c.index.result.now c.index-2.result.now
-        charted.whole.limits here moves c.far_end-far.ensures.leads there other
+    charted.whole.limits here moves c.far_end-far.ensures.leads there other
