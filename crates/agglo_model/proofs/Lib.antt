@@ -19,3 +19,4 @@ pub mod MutualRuns
 pub mod FirstExists
 pub mod SortedMerges
 pub mod LawfulMerges
+pub mod Digits

@@ -1,8 +1,9 @@
 -- What holds of basin labels in every volume.
-use Rattle.std.specs.Prelude.{◌≡◌, ℕ, ◌+◌, ◌≤◌, ◌==◌, List, length, count_by}
+use Rattle.std.specs.Prelude.{◌≡◌, ◌↔◌, ℕ, ◌+◌, ◌≤◌, ◌==◌, List, length, count_by}
 use Rattle.std.specs.List.{range_with_len}
 use Rattle.agglo_model.specs.Axes.{voxel_count}
 use Rattle.agglo_model.specs.Grid.{Grid}
+use Rattle.agglo_model.specs.EdgeOrder.{IsStrongAt, HasNoBest}
 use Rattle.agglo_model.specs.Basins.{AreBasins, label_of, names}
 
 -- these are the basin labels of the volume, and no other list is
@@ -28,3 +29,7 @@ LabelsAreBounded = (g : Grid) (low : ℕ) (labels : List ℕ) → AreBasins g lo
 abbrev pub NamesAreCounted : Type 0
 NamesAreCounted = (g : Grid) (low : ℕ) (labels : List ℕ) → AreBasins g low labels
     → length (names labels) ≡ count_by (λ v. label_of labels v == v + 1) (range_with_len 0 (voxel_count g.axes))
+
+-- a voxel has no best edge exactly where no strong edge meets it
+abbrev pub BestIsWhereStrongIs : Type 0
+BestIsWhereStrongIs = (g : Grid) (low v : ℕ) → HasNoBest g low v ↔ ((e : ℕ) → ¬ (IsStrongAt g low v e))

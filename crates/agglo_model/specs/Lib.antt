@@ -19,3 +19,4 @@ pub mod Cell
 pub mod LabelMap
 pub mod Laws
 pub mod Examples
+pub mod Numbers

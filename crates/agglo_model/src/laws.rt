@@ -1,5 +1,5 @@
 //! Laws over the definitions, each a function that does nothing and whose contract is the law.
-ghost use Rattle.agglo_model.specs.Laws.{HasOneLabelling, LabelsAreBounded, NamesAreCounted, NamesNameVoxels};
+ghost use Rattle.agglo_model.specs.Laws.{BestIsWhereStrongIs, HasOneLabelling, LabelsAreBounded, NamesAreCounted, NamesNameVoxels};
 
 /// Every volume has exactly one list of basin labels: there is one, and no other has the three
 /// properties.
@@ -20,4 +20,9 @@ pub fn bounded_labels()
 /// There are as many basins as voxels whose label is their own number plus 1.
 pub fn counted_names()
     ensures { NamesAreCounted }
+{}
+
+/// A voxel has a best edge wherever a strong edge meets it.
+pub fn best_where_strong()
+    ensures { BestIsWhereStrongIs }
 {}

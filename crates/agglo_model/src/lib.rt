@@ -6,6 +6,7 @@
 pub mod examples;
 pub mod greedy_examples;
 pub mod laws;
+pub mod laws_of_files;
 pub mod laws_of_means;
 pub mod laws_of_merging;
 

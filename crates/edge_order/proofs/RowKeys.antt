@@ -1,5 +1,5 @@
 -- The keys of a row of voxels, and the list of best steps as it grows row by row.
-use Rattle.std.proofs.Common.{◌≡◌, ◌≢◌, ℕ, zero, suc, ◌+◌, ◌*◌, ◌-◌, ◌<◌, ◌≤◌, ◌⊎◌, ◌&&◌, Bool, true, false, IsTrue, nat_le, nat_lt, List, [], ◌∷◌, ◌++◌, length, get_or, map, refl, sym, ◌∙◌, ap, ap₂, subst, inl, inr, arith, eq-or-lt_of_le}
+use Rattle.std.proofs.Common.{◌≡◌, ℕ, ◌+◌, ◌*◌, ◌-◌, ◌<◌, ◌≤◌, ◌⊎◌, ◌&&◌, nat_le, nat_lt, List, [], ◌∷◌, ◌++◌, length, get_or, sym, ◌∙◌, ap, ap₂, subst, inl, inr, arith, eq-or-lt_of_le}
 use Rattle.std.proofs.lemmas.Bool.Decides.{nat_tests}
 use Rattle.std.proofs.lemmas.List.{length_push, get_or_push, get_or_append_left}
 use Rattle.agglo_model.specs.Axes.{Axes, IsPlace, IsWithinLimits, voxel_at, voxel_count, coordinate}
@@ -41,21 +41,25 @@ pub row_best : (g : Grid) (low x y z w m n k1 k2 k3 k4 k5 k6 i1 i2 i3 i4 i5 i6 :
     → IsBestStep g low (voxel_at g.axes x y z) (step_of_key low k6)
 row_best g low x y z w m n k1 k2 k3 k4 k5 k6 i1 i2 i3 i4 i5 i6 limits p w_is m_is n_is j1 j2 j3 j4 j5 j6 e1 e2 e3 e4 e5 e6 =
     best_of_six g low v k1 k2 k3 k4 k5 k6 limits (voxel_at-lt a x y z p)
-        (e1 ∙ ap₂ (λ t i. raised 0 t (key (affinity g i) BackX)) (first_test x w a.nx w_is p.in_x ∙ ap (λ c. nat_lt 0 c) (sym cx)) j1)
-        (e2 ∙ ap₂ (λ c i. raised k1 (nat_lt 0 c) (key (affinity g i) BackY)) (sym cy) j2)
-        (e3 ∙ ap₂ (λ c i. raised k2 (nat_lt 0 c) (key (affinity g i) BackZ)) (sym cz) j3)
-        (e4 ∙ ap₂ (λ t i. raised k3 t (key (affinity g i) OnX)) (last_test x w a.nx w_is p.in_x ∙ ap (λ c. nat_lt (c + 1) a.nx) (sym cx)) j4)
-        (e5 ∙ ap₂ (λ t i. raised k4 t (key (affinity g i) OnY)) (ap₂ (λ c d. nat_lt (c + 1) d) (sym cy) m_is) j5)
-        (e6 ∙ ap₂ (λ t i. raised k5 t (key (affinity g i) OnZ)) (ap₂ (λ c d. nat_lt (c + 1) d) (sym cz) n_is) j6)
+    (e1 ∙ ap₂ (λ t i. raised 0 t (key (affinity g i) BackX)) (first_test x w a.nx w_is p.in_x ∙ ap (λ c. nat_lt 0 c) (sym cx)) j1)
+    (e2 ∙ ap₂ (λ c i. raised k1 (nat_lt 0 c) (key (affinity g i) BackY)) (sym cy) j2)
+    (e3 ∙ ap₂ (λ c i. raised k2 (nat_lt 0 c) (key (affinity g i) BackZ)) (sym cz) j3)
+    (e4 ∙ ap₂ (λ t i. raised k3 t (key (affinity g i) OnX)) (last_test x w a.nx w_is p.in_x ∙ ap (λ c. nat_lt (c + 1) a.nx) (sym cx)) j4)
+    (e5 ∙ ap₂ (λ t i. raised k4 t (key (affinity g i) OnY)) (ap₂ (λ c d. nat_lt (c + 1) d) (sym cy) m_is) j5)
+    (e6 ∙ ap₂ (λ t i. raised k5 t (key (affinity g i) OnZ)) (ap₂ (λ c d. nat_lt (c + 1) d) (sym cz) n_is) j6)
   where
     a : Axes
     a = g.axes
+
     v : ℕ
     v = voxel_at g.axes x y z
+
     cx : coordinate g.axes (voxel_at g.axes x y z) 0 ≡ x
     cx = coordinate-voxel_at_x g.axes x y z p
+
     cy : coordinate g.axes (voxel_at g.axes x y z) 1 ≡ y
     cy = coordinate-voxel_at_y g.axes x y z p
+
     cz : coordinate g.axes (voxel_at g.axes x y z) 2 ≡ z
     cz = coordinate-voxel_at_z g.axes x y z p
 
@@ -67,6 +71,6 @@ best_push g low v steps s best len is u lt = pick (eq-or-lt_of_le (omega (arith,
     pick : (u ≡ length steps) ⊎ (u < length steps) → IsBestStep g low u (get_or (steps ++ s ∷ []) u Stay)
     pick (inl last) =
         subst (λ t. IsBestStep g low u t) (sym (get_or_push steps s Stay u (sym last)))
-            (subst (λ w. IsBestStep g low w s) (sym len ∙ sym last) is)
+        (subst (λ w. IsBestStep g low w s) (sym len ∙ sym last) is)
     pick (inr within) =
         subst (λ t. IsBestStep g low u t) (sym (get_or_append_left steps (s ∷ []) Stay u within)) (best u within)

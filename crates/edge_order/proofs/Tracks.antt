@@ -1,11 +1,11 @@
 -- The greatest key of a voxel's edges, kept while the six are looked at in ascending order of number.
-use Rattle.std.proofs.Common.{◌≡◌, ◌≢◌, ℕ, ◌+◌, ◌*◌, ◌-◌, ◌/◌, ◌%◌, ◌^◌, ◌<◌, ◌≤◌, ◌⊎◌, ◌==◌, ◌&&◌, ◌||◌, if◌then◌else◌, Bool, true, false, nat_le, nat_lt, max, IsTrue, List, [], ◌∷◌, Option, Some, None, MatchOption, refl, sym, ◌∙◌, ap, subst, inl, inr, arith, add-zero, lit<, ltb-true, ltb-false, le-mul_of_pos_right}
+use Rattle.std.proofs.Common.{◌≡◌, ◌≢◌, ℕ, ◌+◌, ◌*◌, ◌/◌, ◌%◌, ◌^◌, ◌<◌, ◌≤◌, ◌⊎◌, ◌==◌, ◌&&◌, ◌||◌, if◌then◌else◌, Bool, true, false, nat_le, nat_lt, max, List, [], ◌∷◌, Some, MatchOption, refl, sym, ◌∙◌, ap, subst, inl, inr, arith, add-zero, lit<, ltb-true, ltb-false, le-mul_of_pos_right}
 use Rattle.std.proofs.lemmas.Bool.{cases_lt, cases_eq}
 use Rattle.std.proofs.lemmas.Bool.Decides.{nat_tests}
 use Rattle.agglo_model.specs.Axes.{Axes, IsWithinLimits, voxel_at, voxel_count, coordinate, edge_count, is_edge}
 use Rattle.agglo_model.specs.Grid.{Grid, affinity}
 use Rattle.agglo_model.specs.EdgeOrder.{EdgeBefore, IsBest, HasNoBest}
-use Rattle.agglo_model.proofs.Edges.{edge_back, edge_on, edge_is}
+use Rattle.agglo_model.proofs.Edges.{edge_on, edge_is}
 use Rattle.agglo_model.proofs.Neighbours.{back_edge, no_back_edge, on_edge_x, on_edge_y, on_edge_z, no_on_edge_x, no_on_edge_y, no_on_edge_z}
 use Rattle.agglo_model.proofs.Places.{place-voxel, voxel_at-place}
 use Rattle.agglo_model.proofs.BestEdge.{is_strong, IsIn, IsBestIn, takes, keeps, first_answers, best_at, none_at, clash, strong_test, strong_tells, edges_at, no_strong_no_best}

@@ -5,10 +5,8 @@
 
 mod best;
 mod rows;
-
 mod step;
 
 pub use best::{best_edge, stronger};
-
 pub use rows::best_steps;
 pub use step::Step;

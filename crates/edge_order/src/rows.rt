@@ -25,7 +25,14 @@ pub fn best_steps(alloc: Global, vol: &Volume, low: u8) -> Result<Vec<Step>, Mem
 }
 
 /// Appends the steps of the row of voxels at these coordinates. The keys are room for its own.
-fn push_row(steps: &mut Vec<Step>, keys: &mut [u16], vol: &Volume, low: u8, y: u32, z: u32) -> Result<(), Memory>
+fn push_row(
+    steps: &mut Vec<Step>,
+    keys: &mut [u16],
+    vol: &Volume,
+    low: u8,
+    y: u32,
+    z: u32,
+) -> Result<(), Memory>
     requires in_y { y < vol.now.axes.ny }
     requires in_z { z < vol.now.axes.nz }
     requires room { length keys.old ≡ vol.now.axes.nx }

@@ -11,7 +11,7 @@ use Rattle.edge_order.specs.Steps.{edge_at, IsBestStep, reversed, LeadsTo}
 use Rattle.edge_order.proofs.Steps.{leads_across, reversed_edge, same_step, edge_of_best, has_edge}
 use Rattle.edge_order.specs.declared.step.Step.{Step}
 use Rattle.edge_order.specs.declared.step.Step.TheVariants.{Stay, BackY, BackZ}
-use Rattle.steepest_ascent.specs.Steps.{AreBestSteps}
+use Rattle.edge_order.specs.Steps.{AreBestSteps}
 use Rattle.steepest_ascent.specs.Turns.{EndsWith, ClimbsTo}
 
 -- a voxel with an edge to its predecessor on an axis has a number of at least the stride

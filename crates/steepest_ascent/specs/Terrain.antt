@@ -3,7 +3,7 @@ use Rattle.std.specs.Prelude.{◌≡◌, ℕ, ◌*◌, List, length}
 use Rattle.agglo_model.specs.Axes.{voxel_count}
 use Rattle.agglo_model.specs.Grid.{Grid, IsWhole}
 use Rattle.edge_order.specs.declared.step.Step.{Step}
-use Rattle.steepest_ascent.specs.Steps.{AreBestSteps}
+use Rattle.edge_order.specs.Steps.{AreBestSteps}
 
 pub record Terrain : Type 0 where
   pub grid : Grid

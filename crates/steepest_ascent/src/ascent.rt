@@ -6,9 +6,8 @@ ghost use Rattle.edge_order.specs.Steps.{IsBestStep, LeadsTo};
 ghost use Rattle.steepest_ascent.specs.Progress.{AreRightSoFar, GainsRightLabels, IsLabelOf};
 ghost use Rattle.steepest_ascent.specs.Turns.{IsTurn};
 
-use crate::steps::best_steps;
 use agglo_model::Memory;
-use edge_order::Step;
+use edge_order::{Step, best_steps};
 use std::alloc::Global;
 use std::marker::Model;
 use volume_file::Volume;

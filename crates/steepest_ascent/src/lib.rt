@@ -5,6 +5,5 @@
 
 mod ascent;
 mod basins;
-mod steps;
 
 pub use basins::whole_basins;

@@ -1,5 +1,5 @@
-use Rattle.std.proofs.Common.{◌≡◌, ℕ, ◌+◌, ◌*◌, ◌-◌, ◌<◌, ◌≤◌, ◌&&◌, nat_lt, nat_le, length, get_or, List, refl, arith, sym, ap, ap₂, ◌∙◌, subst, ltb-true}
-use Rattle.agglo_model.specs.Axes.{Axes, IsPlace, edge_count, voxel_at, voxel_count}
+use Rattle.std.proofs.Common.{◌≡◌, ◌+◌, ◌*◌, ◌-◌, ◌<◌, ◌&&◌, nat_lt, nat_le, length, get_or, refl, arith, ap, ap₂, ◌∙◌, subst, ltb-true}
+use Rattle.agglo_model.specs.Axes.{Axes, IsPlace, edge_count, voxel_at}
 use Rattle.agglo_model.specs.Grid.{Grid}
 use Rattle.edge_order.specs.Keys.{key, raised}
 use Rattle.edge_order.specs.declared.step.Step.TheVariants.{BackX, BackY, BackZ, OnX, OnY, OnZ}
@@ -11,7 +11,7 @@ raise_all-requires-3 c = λ t.
     let a : Axes = c.args.vol.now.axes in
     let ax : c.dims-dims.result.now ≡ a = c.dims-dims.ensures.value in
     let v_is : c.voxel.result ≡ voxel_at a 0 c.args.y c.args.z =
-        c.voxel.ensures.value ∙ ap (λ (d : Axes). voxel_at d 0 c.args.y c.args.z) ax in
+    c.voxel.ensures.value ∙ ap (λ (d : Axes). voxel_at d 0 c.args.y c.args.z) ax in
     let nx_is : c.nx.result ≡ a.nx = c.nx.ensures.value ∙ ap (λ (d : Axes). d.nx) ax in
     let ny_is : c.ny-2.result ≡ a.ny = c.ny-2.ensures.value ∙ ap (λ (d : Axes). d.ny) ax in
     let less = ltb-true (c.args.y + 1) c.ny-2.result t in
@@ -19,7 +19,7 @@ raise_all-requires-3 c = λ t.
     let h = row_within a (c.args.y + 1) c.args.z whole.limits (subst (λ n. c.args.y + 1 < n) ny_is less) c.requires.in_z in
     let len : length c.bytes-bytes.result.now ≡ edge_count a = ap length c.bytes-bytes.ensures.value ∙ whole.whole_body in
     let keys : length c.raise-2.new.keys ≡ a.nx =
-        c.raise-2.auto.keys ∙ c.raise_all-2.auto.keys ∙ c.raise_all.auto.keys ∙ c.raise.auto.keys ∙ c.fill.ensures.len ∙ c.requires.room in
+    c.raise-2.auto.keys ∙ c.raise_all-2.auto.keys ∙ c.raise_all.auto.keys ∙ c.raise.auto.keys ∙ c.fill.ensures.len ∙ c.requires.room in
     omega arith
 
 pub raise_all-requires-4 : goal.raise_all-requires-4
@@ -27,17 +27,17 @@ raise_all-requires-4 c = λ t.
     let a : Axes = c.args.vol.now.axes in
     let ax : c.dims-dims.result.now ≡ a = c.dims-dims.ensures.value in
     let v_is : c.voxel.result ≡ voxel_at a 0 c.args.y c.args.z =
-        c.voxel.ensures.value ∙ ap (λ (d : Axes). voxel_at d 0 c.args.y c.args.z) ax in
+    c.voxel.ensures.value ∙ ap (λ (d : Axes). voxel_at d 0 c.args.y c.args.z) ax in
     let layer_is : c.nx.result * c.ny.result ≡ a.nx * a.ny = ap₂ (λ m n. m * n)
-        (c.nx.ensures.value ∙ ap (λ (d : Axes). d.nx) ax) (c.ny.ensures.value ∙ ap (λ (d : Axes). d.ny) ax) in
+    (c.nx.ensures.value ∙ ap (λ (d : Axes). d.nx) ax) (c.ny.ensures.value ∙ ap (λ (d : Axes). d.ny) ax) in
     let nz_is : c.nz.result ≡ a.nz = c.nz.ensures.value ∙ ap (λ (d : Axes). d.nz) ax in
     let less = ltb-true (c.args.z + 1) c.nz.result t in
     let whole = c.dims-dims.ensures.whole in
     let h = row_within a c.args.y (c.args.z + 1) whole.limits c.requires.in_y (subst (λ n. c.args.z + 1 < n) nz_is less) in
     let len : length c.bytes-bytes.result.now ≡ edge_count a = ap length c.bytes-bytes.ensures.value ∙ whole.whole_body in
     let keys : length c.raise_all-3.new.keys ≡ a.nx =
-        c.raise_all-3.auto.keys ∙ c.raise-2.auto.keys ∙ c.raise_all-2.auto.keys ∙ c.raise_all.auto.keys ∙ c.raise.auto.keys
-        ∙ c.fill.ensures.len ∙ c.requires.room in
+    c.raise_all-3.auto.keys ∙ c.raise-2.auto.keys ∙ c.raise_all-2.auto.keys ∙ c.raise_all.auto.keys ∙ c.raise.auto.keys
+    ∙ c.fill.ensures.len ∙ c.requires.room in
     omega arith
 
 pub returns : goal.returns
@@ -51,7 +51,7 @@ returns c = λ low x lt.
     let v_is : c.voxel.result ≡ voxel_at a 0 y z = c.voxel.ensures.value ∙ ap (λ (d : Axes). voxel_at d 0 y z) ax in
     let nx_is : c.nx.result ≡ a.nx = c.nx.ensures.value ∙ ap (λ (d : Axes). d.nx) ax in
     let layer_is : c.nx.result * c.ny.result ≡ a.nx * a.ny =
-        ap₂ (λ m n. m * n) nx_is (c.ny.ensures.value ∙ ap (λ (d : Axes). d.ny) ax) in
+    ap₂ (λ m n. m * n) nx_is (c.ny.ensures.value ∙ ap (λ (d : Axes). d.ny) ax) in
     let ny_is : c.ny-2.result ≡ a.ny = c.ny-2.ensures.value ∙ ap (λ (d : Axes). d.ny) ax in
     let nz_is : c.nz.result ≡ a.nz = c.nz.ensures.value ∙ ap (λ (d : Axes). d.nz) ax in
     let l5 = c.raise_all-4.auto.keys in
@@ -77,13 +77,13 @@ returns c = λ low x lt.
     let first = 3 * c.voxel.result in
     let w = length c.args.keys.now in
     row_best g low x y z w c.ny-2.result c.nz.result k1 k2 k3 k4 k5 (get_or c.raise_all-4.new.keys x 0)
-        (first + 3 * x) (first + 1 + 3 * x) (first + 2 + 3 * x) (first + 3 + 3 * x)
-        (first + 3 * c.nx.result + 1 + 3 * x) (first + 3 * c.nx.result * c.ny.result + 2 + 3 * x)
-        c.dims-dims.ensures.whole.limits place c.requires.room ny_is nz_is
-        (omega arith) (omega arith) (omega arith) (omega arith) (omega arith) (omega arith)
-        (e1 ∙ ap₂ (λ k bs. raised k (nat_le 1 x && nat_lt x w) (key (get_or bs (first + 3 * x) 0) BackX)) blank bytes_is)
-        (e2 ∙ ap (λ bs. raised k1 (nat_lt 0 y) (key (get_or bs (first + 1 + 3 * x) 0) BackY)) bytes_is)
-        (e3 ∙ ap (λ bs. raised k2 (nat_lt 0 z) (key (get_or bs (first + 2 + 3 * x) 0) BackZ)) bytes_is)
-        (e4 ∙ ap (λ bs. raised k3 (nat_le 0 x && nat_lt x (w - 1)) (key (get_or bs (first + 3 + 3 * x) 0) OnX)) bytes_is)
-        (e5 ∙ ap (λ bs. raised k4 (nat_lt (y + 1) c.ny-2.result) (key (get_or bs (first + 3 * c.nx.result + 1 + 3 * x) 0) OnY)) bytes_is)
-        (e6 ∙ ap (λ bs. raised k5 (nat_lt (z + 1) c.nz.result) (key (get_or bs (first + 3 * c.nx.result * c.ny.result + 2 + 3 * x) 0) OnZ)) bytes_is)
+    (first + 3 * x) (first + 1 + 3 * x) (first + 2 + 3 * x) (first + 3 + 3 * x)
+    (first + 3 * c.nx.result + 1 + 3 * x) (first + 3 * c.nx.result * c.ny.result + 2 + 3 * x)
+    c.dims-dims.ensures.whole.limits place c.requires.room ny_is nz_is
+    (omega arith) (omega arith) (omega arith) (omega arith) (omega arith) (omega arith)
+    (e1 ∙ ap₂ (λ k bs. raised k (nat_le 1 x && nat_lt x w) (key (get_or bs (first + 3 * x) 0) BackX)) blank bytes_is)
+    (e2 ∙ ap (λ bs. raised k1 (nat_lt 0 y) (key (get_or bs (first + 1 + 3 * x) 0) BackY)) bytes_is)
+    (e3 ∙ ap (λ bs. raised k2 (nat_lt 0 z) (key (get_or bs (first + 2 + 3 * x) 0) BackZ)) bytes_is)
+    (e4 ∙ ap (λ bs. raised k3 (nat_le 0 x && nat_lt x (w - 1)) (key (get_or bs (first + 3 + 3 * x) 0) OnX)) bytes_is)
+    (e5 ∙ ap (λ bs. raised k4 (nat_lt (y + 1) c.ny-2.result) (key (get_or bs (first + 3 * c.nx.result + 1 + 3 * x) 0) OnY)) bytes_is)
+    (e6 ∙ ap (λ bs. raised k5 (nat_lt (z + 1) c.nz.result) (key (get_or bs (first + 3 * c.nx.result * c.ny.result + 2 + 3 * x) 0) OnZ)) bytes_is)

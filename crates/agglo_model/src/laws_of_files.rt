@@ -1,0 +1,12 @@
+//! Laws over the bytes of files, each a function that does nothing and whose contract is the law.
+ghost use Rattle.agglo_model.specs.Numbers.{BytesWriteBack, NumbersReadBack};
+
+/// A number reads back from the bytes that it is written as, four or eight of them.
+pub fn numbers_read_back()
+    ensures { NumbersReadBack }
+{}
+
+/// Four or eight bytes are written back from the number that they read as.
+pub fn bytes_write_back()
+    ensures { BytesWriteBack }
+{}
