@@ -12,7 +12,7 @@ use Rattle.agglo_cli.specs.declared.refusal.Refusal.TheVariants.{Memory, Words, 
 use Rattle.agglo_cli.specs.Texts.{SpellNothing}
 use Rattle.agglo_cli.specs.Reading.{file_of, HasFile, OnlyInputChanges, MissesStay, ReadsFile, FindsFlaw, FailsToReadFile, LacksMemory}
 use Rattle.agglo_cli.specs.Writing.{Wrote, WritesAnswer, StopsWriting}
-use Rattle.agglo_cli.specs.Run.{FindsBasins, FinishesBasins, Finishes, StopsBasins, StopsOnTheWay, NamesAFlawedFile, IsStatus}
+use Rattle.agglo_cli.specs.Run.{FindsBasins, FinishesBasins, Finishes, StopsBasins, StopsOnTheWay, NamesAFlawedFile, NamesAWholeFile, IsStatus}
 use Rattle.agglo_cli.specs.Refusal.{status_of, RefusesInput}
 use Rattle.agglo_cli.specs.Outcome.{RefusesRun, RefusesSettings, LacksMemoryForWords}
 use Rattle.agglo_cli.proofs.ReadFile.{only_input}
@@ -27,6 +27,8 @@ pub record Explained (words : List (List ℕ)) (old new : DeskState) (status : �
   pub output : status ≡ 6 → StopsOnTheWay words old new
   pub exactly : NamesAFlawedFile words old
       → IfSome old.files (λ _. (status ≡ 3) ⊎ ((status ≡ 1) ⊎ (status ≡ 5)))
+  pub complete : NamesAWholeFile words old → ¬ (Rose old.input_faults new.input_faults)
+      → ¬ (Rose old.output_faults new.output_faults) → (status ≡ 0) ⊎ (status ≡ 1)
   pub quiet : status ≢ 0 → status ≢ 6 → OnlyInputChanges old new
   pub misses : ((settings : BasinsSettings) → SpellsBasins words settings → HasFile old settings.volume)
       → IfSome old.files (λ _. new.misses ≡ old.misses)
@@ -76,6 +78,7 @@ finishes_explained words s t f = record {
   input = λ e. absurd (cc e);
   output = λ e. absurd (cc e);
   exactly = λ n. not_flawed words f.settings s f.finished.mid _ f.spelled f.finished.found n;
+  complete = λ _ _ _. inl refl;
   quiet = λ no. absurd (no refl);
   misses = λ _. everywhere s.files _
       (wrote_misses _ _ _ f.finished.mid t f.finished.wrote.wrote ∙ mid_misses f.settings s f.finished.mid f.finished.found);
@@ -90,6 +93,12 @@ stopped_misses name file note s t stopped = elim stopped.progress [
   ]
 ]
 
+-- a fault of the output after the input was read is one of the whole run
+stopped_fault : (settings : BasinsSettings) (name file note : List ℕ) (s m t : DeskState) → FindsBasins settings s m
+    → StopsWriting name file note m t → Rose s.output_faults t.output_faults
+stopped_fault settings name file note s m t f stopped =
+    subst (λ (n : ℕ). Rose n t.output_faults) (ap (λ (z : DeskState). z.output_faults) f.read.after) stopped.fault
+
 stops_explained : (words : List (List ℕ)) (s t : DeskState) → StopsOnTheWay words s t → Explained words s t 6
 stops_explained words s t f = record {
   is_status = inr (inr (inr (inr (inr refl))));
@@ -99,6 +108,7 @@ stops_explained words s t f = record {
   input = λ e. absurd (cc e);
   output = λ _. f;
   exactly = λ n. not_flawed words f.settings s f.stopped.mid _ f.spelled f.stopped.found n;
+  complete = λ _ _ no. absurd (no (stopped_fault f.settings _ _ _ s f.stopped.mid t f.stopped.found f.stopped.stopped));
   quiet = λ _ no. absurd (no refl);
   misses = λ _. everywhere s.files _
       (stopped_misses _ _ _ f.stopped.mid t f.stopped.stopped ∙ mid_misses f.settings s f.stopped.mid f.stopped.found);
@@ -117,6 +127,7 @@ memory_explained words settings s t spelled after misses = record {
   input = λ e. absurd (cc e);
   output = λ e. absurd (cc e);
   exactly = λ _. everywhere s.files _ (inr (inl refl));
+  complete = λ _ _ _. inr refl;
   quiet = λ _ _. after;
   misses = λ _. everywhere s.files _ misses;
 }
@@ -137,6 +148,7 @@ words_explained words s t none e = record {
   input = λ e. absurd (cc e);
   output = λ e. absurd (cc e);
   exactly = λ n. absurd (none n.settings n.spelled);
+  complete = λ n _ _. absurd (none n.settings n.spelled);
   quiet = λ _ _. unchanged s t e;
   misses = λ _. everywhere s.files _ (ap (λ (z : DeskState). z.misses) e);
 }
@@ -150,6 +162,17 @@ flawed_where_told : (fault : VolumeFault) (o : Option (List ℕ))
     → IfSome o (λ bytes. option_map fault_of (volume_flaw bytes) ≡ Some fault) → IfSome o (λ bytes. IsSome (volume_flaw bytes))
 flawed_where_told fault None h = tt
 flawed_where_told fault (Some bytes) h = has_flaw fault (volume_flaw bytes) h
+
+-- a whole file has no flaw to tell of
+whole_or_flawed : (words : List (List ℕ)) (fault : VolumeFault) (s t : DeskState) → NamesAWholeFile words s
+    → RefusesSettings words (Volume fault) s t → ⊥
+whole_or_flawed words fault s t n f =
+    let same : n.settings.volume ≡ f.settings.volume = same_volume words n.settings f.settings n.spelled f.spelled in
+    let file : file_of s f.settings.volume ≡ Some n.bytes =
+        subst (λ (name : List ℕ). file_of s name ≡ Some n.bytes) same n.file in
+    let flawed : option_map fault_of (volume_flaw n.bytes) ≡ Some fault =
+        subst (λ (o : Option (List ℕ)). IfSome o (λ bytes. option_map fault_of (volume_flaw bytes) ≡ Some fault)) file f.refused.flaw in
+    cc (subst (λ (o : Option VolumeFlaw). option_map fault_of o ≡ Some fault) n.sound flawed)
 
 volume_explained : (words : List (List ℕ)) (fault : VolumeFault) (s t : DeskState) → RefusesSettings words (Volume fault) s t
     → Explained words s t 3
@@ -166,6 +189,7 @@ volume_explained words fault s t f = record {
   input = λ e. absurd (cc e);
   output = λ e. absurd (cc e);
   exactly = λ _. everywhere s.files _ (inl refl);
+  complete = λ n _ _. absurd (whole_or_flawed words fault s t n f);
   quiet = λ _ _. only_input s t s.input_faults s.misses true t.input f.refused.after;
   misses = λ _. everywhere s.files _ (ap (λ (z : DeskState). z.misses) f.refused.after);
 }
@@ -186,6 +210,7 @@ input_explained words s t f = record {
   input = λ _. f.refused.fault;
   output = λ e. absurd (cc e);
   exactly = λ _. everywhere s.files _ (inr (inr refl));
+  complete = λ _ no _. absurd (no f.refused.fault);
   quiet = λ _ _. f.refused.after;
   misses = λ all. found_stays f.settings.volume s.files s.misses t.misses (all f.settings f.spelled) f.refused.misses;
 }

@@ -58,6 +58,14 @@ pub record NamesAFlawedFile (words : List (List ℕ)) (s : DeskState) : Type 0 w
   pub found : HasFile s settings.volume
   pub flawed : IfSome (file_of s settings.volume) (λ bytes. IsSome (volume_flaw bytes))
 
+-- The words are settings, and the desk tells a file of that name, which is a whole volume.
+pub record NamesAWholeFile (words : List (List ℕ)) (s : DeskState) : Type 0 where
+  pub settings : BasinsSettings
+  pub spelled : SpellsBasins words settings
+  pub bytes : List ℕ
+  pub file : file_of s settings.volume ≡ Some bytes
+  pub sound : volume_flaw bytes ≡ None
+
 -- one of the statuses of the program
 abbrev pub IsStatus : ℕ → Type 0
 IsStatus status = (status ≡ 0) ⊎ ((status ≡ 1) ⊎ ((status ≡ 2) ⊎ ((status ≡ 3) ⊎ ((status ≡ 5) ⊎ (status ≡ 6)))))

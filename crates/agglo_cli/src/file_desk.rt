@@ -1,4 +1,4 @@
-ghost use Rattle.std.specs.Prelude.{◌≡◌, ◌≤◌, [], ◌∷◌, ◌++◌, OnOk, OnErr, IfOk, length, string_bytes};
+ghost use Rattle.std.specs.Prelude.{◌≡◌, ◌≤◌, [], ◌∷◌, ◌++◌, OnOk, OnErr, IfOk, IsNone, length, string_bytes};
 ghost use Rattle.agglo_cli.specs.FileDesk.{opened_ports};
 
 use seg_io::{Desk, Failed, Port};
@@ -26,8 +26,8 @@ struct Outputs<F> {
 
 /// The desk over real files, standard output (`Note`) and standard error (`Trouble`).
 ///
-/// It counts every fault of the outside, want of memory for the copy of a name among them, and
-/// tells nothing of what files hold: this is where proof ends and trust in the system begins.
+/// Every fault of the outside is counted, also one for want of memory to copy a name. What files
+/// hold is not told: this is where proof ends and trust in the system begins.
 #[derive(Drop)]
 pub struct FileDesk<R: Files> {
     rt: R,
@@ -42,7 +42,9 @@ pub struct FileDesk<R: Files> {
 impl<R: Files> FileDesk<R> {
     /// A desk with no input, no port opened but the two that always are, and no fault.
     pub fn new(rt: R, alloc: Global) -> FileDesk<R>
-        ensures { opened_ports result.outputs.opened.items ≡ [] }
+        ensures opened { opened_ports result.outputs.opened.items ≡ [] }
+        ensures input { IsNone result.input }
+        ensures faults { (result.input_faults ≡ 0) × (result.output_faults ≡ 0) × (result.trouble_faults ≡ 0) }
     {
         let outputs = Outputs {
             labels: None,

@@ -4,7 +4,7 @@ ghost use Rattle.agglo_model.specs.VolumeFile.{volume_flaw};
 ghost use Rattle.agglo_model.specs.Words.{BasinsSettings, SpellsBasins};
 ghost use Rattle.agglo_cli.specs.Texts.{texts, SpellNothing};
 ghost use Rattle.agglo_cli.specs.Reading.{HasFile, OnlyInputChanges};
-ghost use Rattle.agglo_cli.specs.Run.{IsFresh, FinishesBasins, Finishes, StopsOnTheWay, NamesAFlawedFile, IsStatus};
+ghost use Rattle.agglo_cli.specs.Run.{IsFresh, FinishesBasins, Finishes, StopsOnTheWay, NamesAFlawedFile, NamesAWholeFile, IsStatus};
 ghost use Rattle.agglo_cli.specs.Outcome.{RefusesBasins, RefusesRun};
 
 use crate::input::read_input;
@@ -33,10 +33,16 @@ pub fn agglo<D: Desk>(alloc: Global, words: &[String], desk: &mut D) -> u8
     ensures exactly { NamesAFlawedFile (texts words.now) (D.state desk.old)
         → IfSome (D.state desk.old).files (λ _. (result ≡ 3) ⊎ ((result ≡ 1) ⊎ (result ≡ 5))) }
 
-    // Nothing is opened or written before the answer is known.
+    // With settings, a whole volume and no fault, only want of memory can come.
+    ensures complete { NamesAWholeFile (texts words.now) (D.state desk.old)
+        → ¬ (Rose (D.state desk.old).input_faults (D.state desk.new).input_faults)
+        → ¬ (Rose (D.state desk.old).output_faults (D.state desk.new).output_faults)
+        → (result ≡ 0) ⊎ (result ≡ 1) }
+
+    // No port is opened or written before the answer is known.
     ensures quiet { result ≢ 0 → result ≢ 6 → OnlyInputChanges (D.state desk.old) (D.state desk.new) }
 
-    // Only a name in the words that no file has is a miss.
+    // A miss comes only where the words are settings, and no file has the name of their volume.
     ensures misses { ((settings : BasinsSettings) → SpellsBasins (texts words.now) settings
         → HasFile (D.state desk.old) settings.volume)
         → IfSome (D.state desk.old).files (λ _. (D.state desk.new).misses ≡ (D.state desk.old).misses) }

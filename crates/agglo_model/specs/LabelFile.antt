@@ -19,6 +19,6 @@ axes_bytes axes = u32_bytes axes.nx ++ u32_bytes axes.ny ++ u32_bytes axes.nz
 abbrev pub label_header : Axes → List ℕ
 label_header axes = label_magic ++ axes_bytes axes ++ u32_bytes 4 ++ replicate 8 0
 
--- the header, then the label of each voxel in order of number
+-- after the header, four bytes for each voxel, in the order of their numbers
 abbrev pub label_file : Axes → List ℕ → List ℕ
 label_file axes labels = label_header axes ++ flat_map u32_bytes labels

@@ -42,7 +42,7 @@ pub fn equal_means_go_by_tie()
     ensures not_by_names { ¬ (IsFirstPair (sheet_volume 100 100) sheet_labels 1 5) }
 {}
 
-/// The mean 201/2 is above 100/1, though both quotients are 100 when they are rounded down.
+/// Of the means 201/2 and 100/1 the first is greater. Whole quotients would not tell them apart.
 pub fn means_are_not_rounded()
     ensures run { IsGreedyRun (sheet_volume 101 100) (mean_of 100 1) sheet_labels
         (merge_of 1 5 201 2 30 ∷ []) }

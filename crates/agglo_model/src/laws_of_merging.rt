@@ -3,8 +3,8 @@
 
 ghost use Rattle.agglo_model.specs.MergeLaws.{AnyOrder, Diamond, GreedyFalls, GreedyIsLawful, SortedIsGreedy};
 
-/// Two different reciprocal pairs share no name. Each stays reciprocal after the merge of the other,
-/// with the same contact, and the two merges may be made in either order.
+/// Reciprocal pairs have no name in common, so merging one of them leaves the other reciprocal, with
+/// the contact that it had, and the labels do not tell which of the two was merged first.
 pub fn reciprocal_merges_commute()
     ensures { Diamond }
 {}

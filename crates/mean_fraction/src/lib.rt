@@ -1,5 +1,5 @@
 //! Mean affinities as exact fractions: the contact of two regions, the order of contacts, and the
-//! threshold. Stands on `agglo_model`; the region graph and the merge tree stand on it.
+//! threshold. It stands on `agglo_model`; agglomeration stands on it.
 #![tactic(auto)]
 
 mod contacts;

@@ -1,4 +1,4 @@
-//! What a segmentation is written as: label files, and merge tree files.
+//! What a segmentation is written as: the label file.
 //!
 //! It stands on `seg_base` for labels and on `seg_io` for the desk; the top call writes through it.
 #![tactic(auto)]

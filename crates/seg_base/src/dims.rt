@@ -118,12 +118,13 @@ impl Dims {
         x + self.nx * (y + self.ny * z)
     }
 
-    /// The place of voxel `v`: its coordinates on the x, y and z axis.
+    /// The place of voxel `v`: its coordinates on the x, y and z axis. `voxel` leads back.
     #[tactic(auto, using(agglo_model::proofs::Places::row_layer))]
     pub fn place(&self, v: u32) -> [u32; 3]
         requires { v < voxel_count self.now }
         ensures value { result ≡ place_of self.now v }
         ensures place { IsPlace self.now (coordinate self.now v 0) (coordinate self.now v 1) (coordinate self.now v 2) }
+        ensures back { voxel_at self.now (coordinate self.now v 0) (coordinate self.now v 1) (coordinate self.now v 2) ≡ v }
         ensures limits { IsWithinLimits self.now }
     {
         let row = v / self.nx;

@@ -1,7 +1,7 @@
 //! The grid of a volume: its axes, its voxels and edges, boxes of voxels, and lists of labels.
 //!
-//! It stands on `agglo_model`, whose records its types mean. The file formats, the cutting in chunks
-//! and the merge trees stand on it.
+//! It stands on `agglo_model`, whose records its types mean. All that knows volumes or labels stands
+//! on it.
 #![tactic(auto)]
 
 mod cell;

@@ -78,10 +78,11 @@ enum Trouble {
 fn labels_are_filled_set_and_read(rt: HostRuntime) -> Result<(), Trouble> {
     let dims = dims_of(4, 1, 1).map_err(Trouble::Dims)?;
     assert!(rt; dims.voxels() == 4);
-    let mut labels = Labels::filled(rt.alloc(), &dims, 7).map_err(Trouble::Memory)?;
+    let mut labels = Labels::filled(rt.alloc(), &dims, 0).map_err(Trouble::Memory)?;
     assert!(rt; labels.dims().voxels() == 4);
+    assert_eq!(rt; labels.list(), [0, 0, 0, 0].as_slice());
     labels.set(2, 3);
-    assert_eq!(rt; labels.list(), [7, 7, 3, 7].as_slice());
+    assert_eq!(rt; labels.list(), [0, 0, 3, 0].as_slice());
     assert!(rt; labels.dims().voxels() == 4);
     assert_eq!(rt; labels.get(2), 3);
     Ok(())

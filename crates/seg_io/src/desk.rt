@@ -10,8 +10,8 @@ pub struct Failed;
 /// What the program sees of the world: one input at a time, and five ports to write on.
 ///
 /// Every meaning of a desk is a field of its ghost `state`, and each call says what it makes of
-/// that state. What an entry does not name stays as it was. A call fails only where its own count
-/// of faults rose, or stands at its last value.
+/// that state: all that it does not name stays. With a failure the count of faults of the call's
+/// kind goes up, unless it is at its end.
 pub trait Desk {
     ghost state: { Self → DeskState };
 

@@ -33,8 +33,8 @@ pub enum Side {
 
 /// A desk in memory, which tells everything.
 ///
-/// A call of it fails exactly where `fail_call` told it to, or `open_in` has a name that no file
-/// has, or the name of `open_out` is longer than the room, or the port of `write` is full. The
+/// Four things make a call fail, and nothing else does: `fail_call` asked for it, the input has an
+/// unknown name, the name of an output does not fit into the room, or a port has no room left. The
 /// calls of the trait take no memory.
 #[derive(Drop)]
 pub struct MemoryDesk {
@@ -107,8 +107,9 @@ impl MemoryDesk {
         self.input.add(name, bytes)
     }
 
-    /// Tells the call of this kind with this number, from 1, to fail. A number that is 0 or already
-    /// passed has no effect. Where memory runs out nothing changes.
+    /// Asks for a failure of the call of this kind with this number, counted from 1. There is no call
+    /// with number 0, and one that was made is over: these change nothing that comes. Where memory
+    /// runs out nothing changes.
     pub fn fail_call(&mut self, kind: CallKind, nth: u64) -> Result<(), Memory>
         ensures { MatchResult result (λ _. self.new ≡ with_call_told kind nth self.old) (λ _. self.new ≡ self.old) }
     {

@@ -25,7 +25,7 @@ pub record ReadsHead (axes : Axes) (old new : DeskState) : Type 0 where
   pub says : IfSome old.input (λ bytes. axes ≡ header_axes bytes)
   pub after : new ≡ taken header_length old
 
--- The header, or what there is of it, has the flaw that this fault tells of. It was taken off.
+-- The first 32 bytes, or as many as there are, have the flaw that this fault tells of, and were taken off.
 pub record FindsBadHead (fault : VolumeFault) (old new : DeskState) : Type 0 where
   pub flaw : IfSome old.input (λ bytes. option_map fault_of (header_flaw bytes) ≡ Some fault)
   pub after : new ≡ taken header_length old

@@ -12,7 +12,7 @@ returns-in-Ok g c =
       flawed = e.flawed;
       input = e.input;
       output = e.output;
-      exactly = e.exactly;
+      exactly = e.exactly; complete = e.complete;
       quiet = e.quiet;
       misses = e.misses;
     }
@@ -27,7 +27,7 @@ returns-in-Err g c =
       flawed = e.flawed;
       input = e.input;
       output = e.output;
-      exactly = e.exactly;
+      exactly = e.exactly; complete = e.complete;
       quiet = e.quiet;
       misses = e.misses;
     }
