@@ -6,6 +6,8 @@
 mod best;
 mod rows;
 mod step;
+#[cfg(test)]
+mod tests;
 
 pub use best::{best_edge, stronger};
 pub use rows::best_steps;

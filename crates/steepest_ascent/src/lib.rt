@@ -5,5 +5,7 @@
 
 mod ascent;
 mod basins;
+#[cfg(test)]
+mod tests;
 
 pub use basins::whole_basins;
