@@ -169,9 +169,9 @@ whole_or_flawed : (words : List (List ℕ)) (fault : VolumeFault) (s t : DeskSta
 whole_or_flawed words fault s t n f =
     let same : n.settings.volume ≡ f.settings.volume = same_volume words n.settings f.settings n.spelled f.spelled in
     let file : file_of s f.settings.volume ≡ Some n.bytes =
-        subst (λ (name : List ℕ). file_of s name ≡ Some n.bytes) same n.file in
+    subst (λ (name : List ℕ). file_of s name ≡ Some n.bytes) same n.file in
     let flawed : option_map fault_of (volume_flaw n.bytes) ≡ Some fault =
-        subst (λ (o : Option (List ℕ)). IfSome o (λ bytes. option_map fault_of (volume_flaw bytes) ≡ Some fault)) file f.refused.flaw in
+    subst (λ (o : Option (List ℕ)). IfSome o (λ bytes. option_map fault_of (volume_flaw bytes) ≡ Some fault)) file f.refused.flaw in
     cc (subst (λ (o : Option VolumeFlaw). option_map fault_of o ≡ Some fault) n.sound flawed)
 
 volume_explained : (words : List (List ℕ)) (fault : VolumeFault) (s t : DeskState) → RefusesSettings words (Volume fault) s t

@@ -23,7 +23,7 @@ pub four_digits : (n : ℕ) → n < 2 ^ 32
 four_digits n h =
     let small : n / 16777216 < 256 = omega arith in
     made_4 n (n / 256) (n / 65536) (n / 16777216) _ _ _ _ (mod-add-div n 256) (next_digit n 256 65536 refl)
-      (next_digit n 65536 16777216 refl) (omega arith)
+    (next_digit n 65536 16777216 refl) (omega arith)
 
 made_8 : (n q1 q2 q3 q4 q5 q6 q7 a b c d e f g h : ℕ) → a + 256 * q1 ≡ n → b + 256 * q2 ≡ q1 → c + 256 * q3 ≡ q2
     → d + 256 * q4 ≡ q3 → e + 256 * q5 ≡ q4 → f + 256 * q6 ≡ q5 → g + 256 * q7 ≡ q6 → h ≡ q7
@@ -37,9 +37,9 @@ pub eight_digits : (n : ℕ) → n < 2 ^ 64
     + 16777216 * (n / 72057594037927936 % 256)) ≡ n
 eight_digits n h =
     made_8 n (n / 256) (n / 65536) (n / 16777216) (n / 4294967296) (n / 1099511627776) (n / 281474976710656) (n / 72057594037927936)
-      _ _ _ _ _ _ _ _ (mod-add-div n 256) (next_digit n 256 65536 refl) (next_digit n 65536 16777216 refl)
-      (next_digit n 16777216 4294967296 refl) (next_digit n 4294967296 1099511627776 refl)
-      (next_digit n 1099511627776 281474976710656 refl) (next_digit n 281474976710656 72057594037927936 refl) (omega arith)
+    _ _ _ _ _ _ _ _ (mod-add-div n 256) (next_digit n 256 65536 refl) (next_digit n 65536 16777216 refl)
+    (next_digit n 16777216 4294967296 refl) (next_digit n 4294967296 1099511627776 refl)
+    (next_digit n 1099511627776 281474976710656 refl) (next_digit n 281474976710656 72057594037927936 refl) (omega arith)
 
 -- a byte of a number, by what stands below it and above it
 digit : (n low b above k : ℕ) → n ≡ (b + 256 * above) * k + low → low < k → b < 256 → n / k % 256 ≡ b

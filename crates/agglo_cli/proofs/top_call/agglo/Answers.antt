@@ -12,7 +12,8 @@ returns-in-Ok g c =
       flawed = e.flawed;
       input = e.input;
       output = e.output;
-      exactly = e.exactly; complete = e.complete;
+      exactly = e.exactly;
+      complete = e.complete;
       quiet = e.quiet;
       misses = e.misses;
     }
@@ -27,7 +28,8 @@ returns-in-Err g c =
       flawed = e.flawed;
       input = e.input;
       output = e.output;
-      exactly = e.exactly; complete = e.complete;
+      exactly = e.exactly;
+      complete = e.complete;
       quiet = e.quiet;
       misses = e.misses;
     }
