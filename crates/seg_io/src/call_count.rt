@@ -1,10 +1,9 @@
 ghost use Rattle.std.specs.Prelude.{◌≡◌, ℕ, MatchResult};
 ghost use Rattle.seg_io.specs.InMemory.{CallsMade, no_calls, is_due, counted, told, one_more};
 
+use agglo_model::Memory;
 use std::alloc::Global;
 use std::marker::Model;
-
-use agglo_model::Memory;
 
 /// The calls of one kind that were made, and those that are to fail.
 #[derive(Drop)]

@@ -4,10 +4,9 @@ ghost use Rattle.std.specs.Str.{bytes_eq};
 ghost use Rattle.seg_io.specs.Desk.{File, file_named};
 ghost use Rattle.seg_io.specs.InMemory.{InputState, bytes_at};
 
+use agglo_model::Memory;
 use std::alloc::Global;
 use std::marker::Model;
-
-use agglo_model::Memory;
 
 /// A file: its name and its bytes.
 #[derive(Drop)]
@@ -98,7 +97,10 @@ impl InputFiles {
     {
         let file = StoredFile::new(self.alloc, name, bytes)?;
         self.files.insert(0, file)?;
-        self.input = self.input.map(|c| Cursor { file: c.file + 1, at: c.at });
+        self.input = self.input.map(|c| Cursor {
+            file: c.file + 1,
+            at: c.at,
+        });
         Ok(())
     }
 
@@ -131,7 +133,10 @@ impl InputFiles {
         let rest = &self.files[cursor.file].bytes()[cursor.at..];
         let taken = into.len().min(most).min(rest.len());
         into[..taken].copy_from_slice(&rest[..taken]);
-        self.input = Some(Cursor { file: cursor.file, at: cursor.at + taken });
+        self.input = Some(Cursor {
+            file: cursor.file,
+            at: cursor.at + taken,
+        });
         taken
     }
 

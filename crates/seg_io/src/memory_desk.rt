@@ -4,17 +4,15 @@ ghost use Rattle.seg_io.specs.Desk.{IsListed, IsOpen, CanOpen, OpensInput, Fails
 ghost use Rattle.seg_io.specs.InMemory.{new_memory, desk_state, output_at, one_more, OpensInputExactly, FailsToOpenInputExactly, ReadsExactly, FailsToReadExactly, OpensOutputExactly, FailsToOpenOutputExactly, WritesExactly, FailsToWriteExactly};
 ghost use Rattle.seg_io.specs.CallKinds.{with_call_told, faults_of};
 
-use std::alloc::Global;
-use std::marker::Model;
-
-use agglo_model::Memory;
-
 use crate::call_count::{CallCount, risen};
 use crate::desk::{Desk, Failed};
 use crate::input_files::InputFiles;
 use crate::opened_ports::OpenedPorts;
 use crate::output::Outputs;
 use crate::port::Port;
+use agglo_model::Memory;
+use std::alloc::Global;
+use std::marker::Model;
 
 /// The calls of a desk, a kind for each count of its own.
 #[derive(Clone, Copy, Debug, PartialEq, Eq)]
@@ -60,17 +58,17 @@ impl Model for MemoryDesk {
     ghost Value = { MemoryState };
 
     ghost view = { λ d. record {
-        most = d.most;
-        input = d.input;
-        opened = d.opened;
-        outputs = d.outputs;
-        input_faults = d.input_faults;
-        output_faults = d.output_faults;
-        trouble_faults = d.trouble_faults;
-        misses = d.misses;
-        opening_in = d.opening_in;
-        reading = d.reading;
-        opening_out = d.opening_out;
+      most = d.most;
+      input = d.input;
+      opened = d.opened;
+      outputs = d.outputs;
+      input_faults = d.input_faults;
+      output_faults = d.output_faults;
+      trouble_faults = d.trouble_faults;
+      misses = d.misses;
+      opening_in = d.opening_in;
+      reading = d.reading;
+      opening_out = d.opening_out;
     } };
 
     ghost invariant = { λ d. 1 ≤ d.most };
@@ -102,7 +100,7 @@ impl MemoryDesk {
     pub fn add_file(&mut self, name: &str, bytes: &[u8]) -> Result<(), Memory>
         ensures { MatchResult result
             (λ _. self.new ≡ record self.old {
-                input = record self.old.input { files = record { name = name.now; bytes = bytes.now } ∷ self.old.input.files };
+              input = record self.old.input { files = record { name = name.now; bytes = bytes.now } ∷ self.old.input.files };
             })
             (λ _. self.new ≡ self.old) }
     {

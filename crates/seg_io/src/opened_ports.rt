@@ -3,10 +3,9 @@ ghost use Rattle.std.specs.List.{Contains};
 ghost use Rattle.seg_io.specs.Desk.{Opened, IsListed};
 ghost use Rattle.seg_io.specs.InMemory.{OpenedState, IsFresh};
 
+use crate::port::Port;
 use std::alloc::{AllocError, Global};
 use std::marker::Model;
-
-use crate::port::Port;
 
 /// A port that was opened, and the name that it was opened under.
 #[derive(Drop)]

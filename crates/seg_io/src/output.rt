@@ -1,13 +1,11 @@
 ghost use Rattle.std.specs.Prelude.{◌≡◌, ℕ, ◌<◌, ◌≤◌, [], length, MatchOption, MatchResult, IfOk};
 ghost use Rattle.seg_io.specs.InMemory.{OutputState, OutputsState, new_output, new_outputs, output_at, with_output, told, WritesOutput, RefusesOutput};
 
-use std::alloc::{AllocError, Global};
-use std::marker::Model;
-
-use agglo_model::Memory;
-
 use crate::call_count::CallCount;
 use crate::port::Port;
+use agglo_model::Memory;
+use std::alloc::{AllocError, Global};
+use std::marker::Model;
 
 /// What was written on a port, with room for so many bytes.
 #[derive(Drop)]
