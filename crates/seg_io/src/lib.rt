@@ -1,4 +1,8 @@
-//! The outside as a trait, `Desk`, a desk in memory, and the calls that read and write whole pieces.
+//! The outside as a trait, `Desk`: the calls by which the program opens, reads and writes, and how
+//! each may fail. Above it the calls that go on until a piece is whole (`fill`, `put_all`,
+//! `Piecer`), and below it a desk in memory.
+//!
+//! It stands on agglo_model alone; the readers and writers of files and the program stand on it.
 #![tactic(auto)]
 
 mod call_count;
@@ -16,3 +20,6 @@ pub use memory_desk::{CallKind, MemoryDesk, Side};
 pub use piecer::Piecer;
 pub use pieces::{PIECE_LENGTH, fill, put_all};
 pub use port::Port;
+
+#[cfg(test)]
+mod tests;
