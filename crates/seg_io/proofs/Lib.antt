@@ -2,3 +2,4 @@ pub mod States
 pub mod Piecing
 mod Filling
 mod Writing
+mod Opening

@@ -1,10 +1,11 @@
 -- Puts one after another, and a finish at their end: what a caller that streams through a Piecer cites.
-use Rattle.std.proofs.Common.{◌≡◌, ℕ, ◌≤◌, Bool, true, List, [], ◌++◌, length, ◌+◌, ◌-◌, take, drop, refl, sym, ap, subst, ◌∙◌, append_assoc}
+use Rattle.std.proofs.Common.{◌≡◌, ℕ, ◌≤◌, Bool, true, Result, MatchResult, List, [], ◌++◌, length, ◌+◌, ◌-◌, take, drop, refl, sym, ap, subst, ◌∙◌, append_assoc}
 use Rattle.std.proofs.Math.Seq.{take-add}
+use Rattle.std.proofs.lemmas.Result.{MatchResult-weaker}
 use Rattle.std.proofs.lemmas.List.{append-nil, take_all, take_rest, take-append-drop}
 use Rattle.seg_io.specs.declared.port.Port.{Port}
 use Rattle.seg_io.specs.Desk.{DeskState, IsOpen, appended, FailsAfterWriting}
-use Rattle.seg_io.specs.Piecing.{PiecerState, Puts, FailsToPut}
+use Rattle.seg_io.specs.Piecing.{PiecerState, new_piecer, Puts, FailsToPut}
 use Rattle.seg_io.proofs.States.{appended-none, appended-appended, IsOpen-appended, FailsAfterWriting-later, FailsAfterWriting-sooner}
 
 -- nothing was put yet
@@ -108,3 +109,20 @@ pub put_turn_fails : (bytes : List ℕ) (n : ℕ) (p q r : PiecerState) (s t u :
 put_turn_fails bytes n p q r s t u x f =
     subst (λ (l : List ℕ). FailsToPut l p r s u) (take-append-drop n bytes) (Puts-fails (take n bytes) (drop n bytes) p q r s t u x
     (subst (λ (l : List ℕ). FailsToPut l q r t u) (take_rest bytes n) f))
+
+-- The finish of a new Piecer after these puts: all that was put, or a prefix of it.
+pub finish_all : {X E : Type 0} (r : Result X E) (port : Port) (a : List ℕ) (p q : PiecerState) (s t u : DeskState)
+    → p ≡ new_piecer port → Puts a p q s t
+    → MatchResult r (λ _. u ≡ appended q.port q.held t) (λ _. FailsAfterWriting q.port q.held t u)
+    → MatchResult r (λ _. u ≡ appended port a s) (λ _. FailsAfterWriting port a s u)
+finish_all r port a p q s t u e x m =
+    let y : Puts a (new_piecer port) q s t = subst (λ (z : PiecerState). Puts a z q s t) e x in
+    MatchResult-weaker r m (λ _ w. Puts-finish a (new_piecer port) q s t u y w)
+    (λ _ f. Puts-fails_finish a (new_piecer port) q s t u y f)
+
+-- A put that fails, of a new Piecer after these puts: a prefix of all that was put.
+pub put_fails : (port : Port) (a b : List ℕ) (p q r : PiecerState) (s t u : DeskState)
+    → p ≡ new_piecer port → Puts a p q s t → FailsToPut b q r t u → FailsAfterWriting port (a ++ b) s u
+put_fails port a b p q r s t u e x f =
+    let y : Puts a (new_piecer port) q s t = subst (λ (z : PiecerState). Puts a z q s t) e x in
+    let g : FailsToPut (a ++ b) (new_piecer port) r s u = Puts-fails a b (new_piecer port) q r s t u y f in g.after

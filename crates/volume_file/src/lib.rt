@@ -4,6 +4,14 @@
 //! stands on it.
 #![tactic(auto)]
 
+mod body;
+mod fault;
+mod reading;
+#[cfg(test)]
+mod tests;
 mod volume;
 
+pub use body::read_body;
+pub use fault::VolumeFault;
+pub use reading::{read_head, read_volume};
 pub use volume::{Head, Volume};

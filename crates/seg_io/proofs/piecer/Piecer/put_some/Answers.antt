@@ -1,6 +1,6 @@
 use Rattle.std.proofs.Common.{arith}
 use Rattle.seg_io.proofs.Piecing.{full_fails}
-use Rattle.seg_io.proofs.gathered.Piecer.put_some.Goals as goal
+use Rattle.seg_io.proofs.piecer.Piecer.put_some.Goals as goal
 
 pub returns-in-Err : goal.returns-in-Err
 returns-in-Err g c =

@@ -1,7 +1,7 @@
 use Rattle.std.proofs.Common.{◌-◌, drop, arith, length, length-take, length-drop}
 use Rattle.std.proofs.lemmas.Result.{err_from_is_err_and}
 use Rattle.seg_io.proofs.Piecing.{put_turn, put_turn_fails}
-use Rattle.seg_io.proofs.gathered.Piecer.put.Goals as goal
+use Rattle.seg_io.proofs.piecer.Piecer.put.Goals as goal
 
 pub returns-in_err-taken : goal.returns-in_err-taken
 returns-in_err-taken g c =

@@ -1,6 +1,6 @@
 use Rattle.std.proofs.Common.{length, take, ◌-◌, ◌≤◌}
 use Rattle.seg_io.specs.Piecing.{Puts}
-use Rattle.seg_io.proofs.gathered.Piecer.put.Given as goal
+use Rattle.seg_io.proofs.piecer.Piecer.put.Given as goal
 
 abbrev pub invariant-loop-taken : goal.invariant-loop-taken
 invariant-loop-taken g l = record {

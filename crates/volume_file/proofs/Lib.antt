@@ -1,0 +1,4 @@
+pub mod States
+pub mod Header
+pub mod BodyPieces
+pub mod Whole

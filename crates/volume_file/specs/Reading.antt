@@ -1,0 +1,77 @@
+-- What the calls that read a volume take off a desk's input, and what they answer. A desk may tell its
+-- input or not; what is said of the bytes is said where it does.
+use Rattle.std.specs.Prelude.{◌≡◌, ℕ, ◌+◌, [], Some, None, IfSome}
+use Rattle.std.specs.Option.{option_map}
+use Rattle.agglo_model.specs.Axes.{Axes, edge_count}
+use Rattle.agglo_model.specs.Grid.{Grid}
+use Rattle.agglo_model.specs.VolumeFile.{header_length, header_axes, header_flaw, body_flaw, volume_flaw, volume_in}
+use Rattle.seg_io.specs.Desk.{DeskState, taken, FailsAfterReading}
+use Rattle.volume_file.specs.declared.fault.VolumeFault.{VolumeFault}
+use Rattle.volume_file.specs.declared.fault.VolumeFault.TheVariants.{Truncated, Trailing, Read, Memory}
+use Rattle.volume_file.specs.Fault.{fault_of}
+
+-- some bytes were taken off the input, and nothing else happened
+pub record TakesSome (old new : DeskState) : Type 0 where
+  pub count : ℕ
+  pub after : new ≡ taken count old
+
+-- the state with nothing left of the input
+abbrev pub emptied : DeskState → DeskState
+emptied s = record s { input = option_map (λ _. []) s.input }
+
+-- The input left begins with a sound header for these axes. It was taken off.
+pub record ReadsHead (axes : Axes) (old new : DeskState) : Type 0 where
+  pub sound : IfSome old.input (λ bytes. header_flaw bytes ≡ None)
+  pub says : IfSome old.input (λ bytes. axes ≡ header_axes bytes)
+  pub after : new ≡ taken header_length old
+
+-- The header, or what there is of it, has the flaw that this fault tells of. It was taken off.
+pub record FindsBadHead (fault : VolumeFault) (old new : DeskState) : Type 0 where
+  pub flaw : IfSome old.input (λ bytes. option_map fault_of (header_flaw bytes) ≡ Some fault)
+  pub after : new ≡ taken header_length old
+
+-- no header was read
+abbrev pub FailsToReadHead : VolumeFault → DeskState → DeskState → Type 0
+FailsToReadHead (Truncated got) old new = ⊥
+FailsToReadHead Trailing old new = ⊥
+FailsToReadHead Read old new = FailsAfterReading old new
+FailsToReadHead Memory old new = ⊥
+FailsToReadHead fault old new = FindsBadHead fault old new
+
+-- The input left was the body of this volume, whose axes are those given. Nothing is left of it.
+pub record ReadsBody (axes : Axes) (volume : Grid) (old new : DeskState) : Type 0 where
+  pub axes_are : volume.axes ≡ axes
+  pub sound : IfSome old.input (λ bytes. body_flaw axes bytes ≡ None)
+  pub says : IfSome old.input (λ bytes. volume.bytes ≡ bytes)
+  pub after : new ≡ emptied old
+
+-- The input left is too short or too long for a body for these axes. The body, or what there is of it,
+-- was taken off, and one byte more where there is one.
+pub record FindsBadBody (axes : Axes) (fault : VolumeFault) (old new : DeskState) : Type 0 where
+  pub flaw : IfSome old.input (λ bytes. option_map fault_of (body_flaw axes bytes) ≡ Some fault)
+  pub after : new ≡ taken (edge_count axes + 1) old
+
+-- no body was read
+abbrev pub FailsToReadBody : Axes → VolumeFault → DeskState → DeskState → Type 0
+FailsToReadBody axes (Truncated got) old new = FindsBadBody axes (Truncated got) old new
+FailsToReadBody axes Trailing old new = FindsBadBody axes Trailing old new
+FailsToReadBody axes Read old new = FailsAfterReading old new
+FailsToReadBody axes Memory old new = TakesSome old new
+FailsToReadBody axes fault old new = ⊥
+
+-- The input left was a whole volume file, of this volume. Nothing is left of it.
+pub record ReadsVolume (volume : Grid) (old new : DeskState) : Type 0 where
+  pub sound : IfSome old.input (λ bytes. volume_flaw bytes ≡ None)
+  pub says : IfSome old.input (λ bytes. volume ≡ volume_in bytes)
+  pub after : new ≡ emptied old
+
+-- The input left has a flaw that this fault tells of. Some of it was taken off.
+pub record FindsBadVolume (fault : VolumeFault) (old new : DeskState) : Type 0 where
+  pub flaw : IfSome old.input (λ bytes. option_map fault_of (volume_flaw bytes) ≡ Some fault)
+  pub after : TakesSome old new
+
+-- no volume was read
+abbrev pub FailsToReadVolume : VolumeFault → DeskState → DeskState → Type 0
+FailsToReadVolume Read old new = FailsAfterReading old new
+FailsToReadVolume Memory old new = TakesSome old new
+FailsToReadVolume fault old new = FindsBadVolume fault old new
