@@ -282,7 +282,7 @@ pub standing_falls : (top : ℕ) (g : Grid) (low v w e f : ℕ) → ((k : ℕ) �
     → standing top g low w < standing top g low v
 standing_falls top g low v w e f most b ends c ne =
     let falls = height_falls top g e f (most f) (edge_is g.axes f c.strong.edge).numbered
-        (next_before g low v w e f b ends c ne) in
+    (next_before g low v w e f b ends c ne) in
     let here = standing_at top g low v e b in
     let there = standing_at top g low w f c in
     omega arith

@@ -14,7 +14,8 @@ numbered a u c e lt is below some =
     is_edge_from a e (record {
       numbered = omega arith;
       inside = subst (λ d. 0 < coordinate a (e / 3) d) (sym axis)
-          (subst (λ w. 0 < coordinate a w c) (sym voxel) some) })
+          (subst (λ w. 0 < coordinate a w c) (sym voxel) some);
+    })
 
 not_true : (b : Bool) → (b ≡ true → ⊥) → b ≡ false
 not_true true h = absurd (h refl)
@@ -27,7 +28,7 @@ not_numbered a u c e lt is none = not_true (is_edge a e) (λ t.
     let voxel : e / 3 ≡ u = omega arith in
     let axis : e % 3 ≡ c = omega arith in
     let at : 0 < coordinate a u c = subst (λ d. 0 < coordinate a u d) axis
-        (subst (λ w. 0 < coordinate a w (e % 3)) voxel edge.inside) in
+    (subst (λ w. 0 < coordinate a w (e % 3)) voxel edge.inside) in
     let below : e < edge_count a = edge.numbered in
     let zero_there = none (omega arith) in
     absurd (omega arith))
@@ -48,8 +49,8 @@ on_edge_x a x y z p lt =
     let is : voxel_at a (x + 1) y z ≡ voxel_at a x y z + 1 = omega arith in
     let some : 0 < coordinate a (voxel_at a (x + 1) y z) 0 = rw (coordinate-voxel_at_x a (x + 1) y z next) (omega arith) in
     numbered a (voxel_at a x y z + 1) 0 (edge_on a (voxel_at a x y z) 0) (omega arith) refl
-        (subst (λ u. u < voxel_count a) is (voxel_at-lt a (x + 1) y z next))
-        (subst (λ u. 0 < coordinate a u 0) is some)
+    (subst (λ u. u < voxel_count a) is (voxel_at-lt a (x + 1) y z next))
+    (subst (λ u. 0 < coordinate a u 0) is some)
 
 pub on_edge_y : (a : Axes) (x y z : ℕ) → IsPlace a x y z → y + 1 < a.ny
     → is_edge a (edge_on a (voxel_at a x y z) 1) ≡ true
@@ -58,8 +59,8 @@ on_edge_y a x y z p lt =
     let is : voxel_at a x (y + 1) z ≡ voxel_at a x y z + a.nx = omega arith in
     let some : 0 < coordinate a (voxel_at a x (y + 1) z) 1 = rw (coordinate-voxel_at_y a x (y + 1) z next) (omega arith) in
     numbered a (voxel_at a x y z + a.nx) 1 (edge_on a (voxel_at a x y z) 1) (omega arith) refl
-        (subst (λ u. u < voxel_count a) is (voxel_at-lt a x (y + 1) z next))
-        (subst (λ u. 0 < coordinate a u 1) is some)
+    (subst (λ u. u < voxel_count a) is (voxel_at-lt a x (y + 1) z next))
+    (subst (λ u. 0 < coordinate a u 1) is some)
 
 pub on_edge_z : (a : Axes) (x y z : ℕ) → IsPlace a x y z → z + 1 < a.nz
     → is_edge a (edge_on a (voxel_at a x y z) 2) ≡ true
@@ -68,17 +69,18 @@ on_edge_z a x y z p lt =
     let is : voxel_at a x y (z + 1) ≡ voxel_at a x y z + a.nx * a.ny = omega arith in
     let some : 0 < coordinate a (voxel_at a x y (z + 1)) 2 = rw (coordinate-voxel_at_z a x y (z + 1) next) (omega arith) in
     numbered a (voxel_at a x y z + a.nx * a.ny) 2 (edge_on a (voxel_at a x y z) 2) (omega arith) refl
-        (subst (λ u. u < voxel_count a) is (voxel_at-lt a x y (z + 1) next))
-        (subst (λ u. 0 < coordinate a u 2) is some)
+    (subst (λ u. u < voxel_count a) is (voxel_at-lt a x y (z + 1) next))
+    (subst (λ u. 0 < coordinate a u 2) is some)
 
 pub no_on_edge_x : (a : Axes) (x y z : ℕ) → IsPlace a x y z → a.nx ≤ x + 1
     → is_edge a (edge_on a (voxel_at a x y z) 0) ≡ false
 no_on_edge_x a x y z p last =
     not_numbered a (voxel_at a x y z + 1) 0 (edge_on a (voxel_at a x y z) 0) (omega arith) refl (λ below.
-        ap (λ u. u % a.nx) next_row ∙ mod-mul-add (y + a.ny * z + 1) a.nx 0 some)
+    ap (λ u. u % a.nx) next_row ∙ mod-mul-add (y + a.ny * z + 1) a.nx 0 some)
   where
     some : 0 < a.nx
     some = omega (arith, p.in_x)
+
     next_row : voxel_at a x y z + 1 ≡ (y + a.ny * z + 1) * a.nx + 0
     next_row = omega (arith, p.in_x)
 
@@ -86,14 +88,16 @@ pub no_on_edge_y : (a : Axes) (x y z : ℕ) → IsPlace a x y z → a.ny ≤ y +
     → is_edge a (edge_on a (voxel_at a x y z) 1) ≡ false
 no_on_edge_y a x y z p last =
     not_numbered a (voxel_at a x y z + a.nx) 1 (edge_on a (voxel_at a x y z) 1) (omega arith) refl (λ below.
-        ap (λ u. u / a.nx % a.ny) next_layer
-        ∙ ap (λ r. r % a.ny) (div-mul-add ((z + 1) * a.ny + 0) a.nx x p.in_x)
-        ∙ mod-mul-add (z + 1) a.ny 0 some)
+    ap (λ u. u / a.nx % a.ny) next_layer
+    ∙ ap (λ r. r % a.ny) (div-mul-add ((z + 1) * a.ny + 0) a.nx x p.in_x)
+    ∙ mod-mul-add (z + 1) a.ny 0 some)
   where
     some : 0 < a.ny
     some = omega (arith, p.in_y)
+
     full : a.nx * (y + 1) ≡ a.nx * a.ny
     full = ap (λ t. a.nx * t) (omega (arith, p.in_y))
+
     next_layer : voxel_at a x y z + a.nx ≡ ((z + 1) * a.ny + 0) * a.nx + x
     next_layer = omega (arith, full)
 
@@ -101,7 +105,7 @@ pub no_on_edge_z : (a : Axes) (x y z : ℕ) → IsPlace a x y z → a.nz ≤ z +
     → is_edge a (edge_on a (voxel_at a x y z) 2) ≡ false
 no_on_edge_z a x y z p last =
     not_numbered a (voxel_at a x y z + a.nx * a.ny) 2 (edge_on a (voxel_at a x y z) 2) (omega arith) refl (λ below.
-        absurd (omega (arith, full)))
+    absurd (omega (arith, full)))
   where
     full : a.nx * a.ny * (z + 1) ≡ a.nx * a.ny * a.nz
     full = ap (λ t. a.nx * a.ny * t) (omega (arith, p.in_z))
