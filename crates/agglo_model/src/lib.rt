@@ -3,6 +3,7 @@
 //! It stands on nothing but std, and every other crate stands on it.
 #![tactic(auto)]
 
+pub mod cutting_examples;
 pub mod examples;
 pub mod greedy_examples;
 pub mod laws;
