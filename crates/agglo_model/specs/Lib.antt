@@ -18,6 +18,7 @@ pub mod GreedyExamples
 pub mod Cell
 pub mod Cutting
 pub mod CuttingExamples
+pub mod CuttingLaws
 pub mod LabelMap
 pub mod Laws
 pub mod Examples
