@@ -1,12 +1,13 @@
 -- Walks from level to level.
-use Rattle.std.proofs.Common.{◌≡◌, ℕ, suc, ◌+◌, ◌*◌, ◌-◌, ◌/◌, ◌^◌, ◌<◌, ◌≤◌, min, List, get_or, Fits, w32, inl, inr, refl, ap, sym, ◌∙◌, subst, add-one, arith}
+use Rattle.std.proofs.Common.{◌≡◌, ℕ, suc, ◌+◌, ◌*◌, ◌-◌, ◌/◌, ◌^◌, ◌<◌, ◌≤◌, ◌≢◌, ◌==◌, min, List, [], ◌∷◌, get_or, Bool, true, false, cond, Option, Some, None, Fits, w32, inl, inr, refl, ap, sym, ◌∙◌, subst, add-one, arith}
 use Rattle.std.specs.Int.{div_ceil}
 use Rattle.std.proofs.lemmas.Bool.{cases_lt}
+use Rattle.std.proofs.lemmas.Bool.Decides.{nat_tests}
 use Rattle.std.proofs.Math.Nat.{mul-le-mul, pow-le-pow_right}
-use Rattle.agglo_model.specs.Axes.{Axes, IsWithinLimits, IsPlace, voxel_count, coordinate, place_of}
-use Rattle.agglo_model.specs.Cutting.{Chunking, IsChunking, length_on, cell_length, cells_on, level_grid, cells_at, last_level, first_node, node_count, root, level_of, cell_place, children_grid}
+use Rattle.agglo_model.specs.Axes.{Axes, IsWithinLimits, IsPlace, voxel_count, voxel_at, coordinate, place_of}
+use Rattle.agglo_model.specs.Cutting.{Chunking, IsChunking, length_on, cell_length, cells_on, level_grid, cells_at, last_level, first_node, node_count, root, level_of, cell_place, children_grid, node_above, parent}
 use Rattle.agglo_model.proofs.Levels.{on_level, level_of-is, cells_at-last, cells_at_pos, is_last_level, last_level_le, first_node_le, node_count-lt}
-use Rattle.agglo_model.proofs.NodeCells.{first_node-next, level_grid-next, node_place, cell_begins, root_by_level}
+use Rattle.agglo_model.proofs.NodeCells.{first_node-next, level_grid-next, node_place, half_place, cell_begins, root_by_level, level_of-root, leaf_place}
 use Rattle.chunk_tree.specs.declared.level.Level.{Level}
 use Rattle.chunk_tree.specs.Levels.{IsLevel}
 
@@ -14,10 +15,13 @@ use Rattle.chunk_tree.specs.Levels.{IsLevel}
 pub cells_of : (t : Chunking) (level : Level) → IsLevel t level → voxel_count level.grid ≡ cells_at t level.number
 cells_of t level is = ap voxel_count is.grid
 
--- the nodes up to a level's end are numbered below 2^20
-pub level_end : (t : Chunking) (level : Level) → IsChunking t → IsLevel t level → level.first + voxel_count level.grid < 2 ^ 20
-level_end t level h is = omega (arith, is.first, cells_of t level is, node_count-lt t h,
+-- the nodes up to a level's end are nodes, and numbered below 2^20
+pub level_end_le : (t : Chunking) (level : Level) → IsLevel t level → level.first + voxel_count level.grid ≤ node_count t
+level_end_le t level is = omega (arith, is.first, cells_of t level is,
     first_node_le t (suc level.number) (suc (last_level t)) (omega (arith, is.reached)))
+
+pub level_end : (t : Chunking) (level : Level) → IsChunking t → IsLevel t level → level.first + voxel_count level.grid < 2 ^ 20
+level_end t level h is = omega (arith, level_end_le t level is, node_count-lt t h)
 
 -- the next level
 pub next_level : (t : Chunking) (level : Level) → IsChunking t → IsLevel t level → level.number < last_level t
@@ -188,3 +192,74 @@ pub below_node : (t : Chunking) (m : ℕ) (level : Level) (x : ℕ) → IsLevel 
     → suc level.number ≡ level_of t m → x < voxel_count level.grid → level.first + x < m
 below_node t m level x is below next inside =
     omega (arith, is.first, cells_of t level is, (on_level t m below).from, ap (first_node t) next)
+
+-- ---- parents
+
+by_test : (b : Bool) (x : Option ℕ) → b ≡ true → None ≡ cond b None x
+by_test true x is = refl
+by_test false x is = cc
+
+by_other_test : (b : Bool) (x : Option ℕ) → b ≡ false → x ≡ cond b None x
+by_other_test true x is = cc
+by_other_test false x is = refl
+
+other_number : (x y : ℕ) → x ≢ y → (x == y) ≡ false
+other_number x y differ = grind (arith, nat_tests)
+
+-- the root has no parent
+pub parent-root : (t : Chunking) (m : ℕ) → m ≡ root t → None ≡ parent t m
+parent-root t m is = by_test (m == root t) (Some (node_above t m)) (grind (arith, nat_tests))
+
+-- a level of one cell is the root's; of more, it is not the last
+pub inner_by_test : (t : Chunking) (level : Level) → IsChunking t → IsLevel t level → voxel_count level.grid ≢ 1
+    → level.number < last_level t
+inner_by_test t level h is more =
+    inner_by_cells t level h is (omega (arith, cells_of t level is, cells_at_pos t h level.number))
+
+-- the parent's place is one of the next level's grid
+pub parent_place : (t : Chunking) (m : ℕ) (next : Level) → IsChunking t → m < node_count t → IsLevel t next
+    → next.number ≡ suc (level_of t m) → (place : List ℕ) → HasPlace t m place
+    → IsPlace next.grid (get_or place 0 0 / 2) (get_or place 1 0 / 2) (get_or place 2 0 / 2)
+parent_place t m next h below is number place has =
+    subst (λ (a : Axes). IsPlace a (get_or place 0 0 / 2) (get_or place 1 0 / 2) (get_or place 2 0 / 2))
+        (sym (is.grid ∙ ap (level_grid t) number))
+        (half_place t h (level_of t m) (get_or place 0 0) (get_or place 1 0) (get_or place 2 0)
+            (place_on_level t m h below place has))
+
+-- and its number is the parent's
+pub parent-is : (t : Chunking) (m : ℕ) (next : Level) → IsChunking t → IsLevel t next
+    → next.number ≡ suc (level_of t m) → (place : List ℕ) → HasPlace t m place → (index : ℕ)
+    → index ≡ voxel_at next.grid (get_or place 0 0 / 2) (get_or place 1 0 / 2) (get_or place 2 0 / 2)
+    → Some (next.first + index) ≡ parent t m
+parent-is t m next h is number place has index is_index =
+    (λ i. Some (before i + (is_index ∙ (λ j. voxel_at (grid j) (has.x j / 2) (has.y j / 2) (has.z j / 2))) i))
+    ∙ by_other_test (m == root t) (Some (node_above t m)) inner
+  where
+    grid : next.grid ≡ level_grid t (suc (level_of t m))
+    grid = is.grid ∙ ap (level_grid t) number
+    before : next.first ≡ first_node t (suc (level_of t m))
+    before = is.first ∙ ap (first_node t) number
+    not_root : m ≢ root t
+    not_root same = omega (arith, ap (level_of t) same, level_of-root t h, number, is.reached)
+    inner : (m == root t) ≡ false
+    inner = other_number m (root t) not_root
+
+-- a node of the next level comes after a node
+pub above_node : (t : Chunking) (m : ℕ) (next : Level) (x : ℕ) → m < node_count t → IsLevel t next
+    → next.number ≡ suc (level_of t m) → x < voxel_count next.grid
+    → (m < next.first + x) × (next.first + x < node_count t)
+above_node t m next x below is number inside = (
+  omega (arith, is.first ∙ ap (first_node t) number, (on_level t m below).to),
+  omega (arith, level_end_le t next is),
+)
+
+-- ---- leaves
+
+-- the place of a voxel's leaf, as read off the axes
+pub leaf_place_at : (t : Chunking) (v : ℕ) → IsChunking t → v < voxel_count t.axes → (leaves : Axes) → leaves ≡ level_grid t 0
+    → (place : List ℕ) → place ≡ place_of t.axes v → (nx ny nz : ℕ) → nx ≡ t.leaf.nx → ny ≡ t.leaf.ny → nz ≡ t.leaf.nz
+    → IsPlace leaves (get_or place 0 0 / nx) (get_or place 1 0 / ny) (get_or place 2 0 / nz)
+leaf_place_at t v h below leaves is_leaves place read nx ny nz is_x is_y is_z =
+    subst (λ (p : Axes × List ℕ × List ℕ). IsPlace p.0 (get_or p.1 0 0 / get_or p.2 0 0) (get_or p.1 1 0 / get_or p.2 1 0) (get_or p.1 2 0 / get_or p.2 2 0))
+        (λ i. (sym is_leaves i, sym read i, sym is_x i ∷ sym is_y i ∷ sym is_z i ∷ []))
+        (leaf_place t h v below)
