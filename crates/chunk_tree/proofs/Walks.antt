@@ -17,8 +17,12 @@ cells_of t level is = ap voxel_count is.grid
 
 -- the nodes up to a level's end are nodes, and numbered below 2^20
 pub level_end_le : (t : Chunking) (level : Level) → IsLevel t level → level.first + voxel_count level.grid ≤ node_count t
-level_end_le t level is = omega (arith, is.first, cells_of t level is,
-    first_node_le t (suc level.number) (suc (last_level t)) (omega (arith, is.reached)))
+level_end_le t level is = omega (
+  arith,
+  is.first,
+  cells_of t level is,
+  first_node_le t (suc level.number) (suc (last_level t)) (omega (arith, is.reached)),
+)
 
 pub level_end : (t : Chunking) (level : Level) → IsChunking t → IsLevel t level → level.first + voxel_count level.grid < 2 ^ 20
 level_end t level h is = omega (arith, level_end_le t level is, node_count-lt t h)
@@ -34,10 +38,10 @@ next_level t level h is inner voxels nx ny nz is_voxels is_x is_y is_z grid is_g
   first = sym (first_node-next t level.number ∙ (λ i. sym is.first i + sym (is_voxels ∙ cells_of t level is) i));
   grid = is_grid
       ∙ (λ i. record {
-          nx = (is_x ∙ ap (λ (a : Axes). div_ceil a.nx 2) is.grid) i;
-          ny = (is_y ∙ ap (λ (a : Axes). div_ceil a.ny 2) is.grid) i;
-          nz = (is_z ∙ ap (λ (a : Axes). div_ceil a.nz 2) is.grid) i;
-        })
+        nx = (is_x ∙ ap (λ (a : Axes). div_ceil a.nx 2) is.grid) i;
+        ny = (is_y ∙ ap (λ (a : Axes). div_ceil a.ny 2) is.grid) i;
+        nz = (is_z ∙ ap (λ (a : Axes). div_ceil a.nz 2) is.grid) i;
+      })
       ∙ sym (level_grid-next t h level.number);
 }
 
@@ -45,10 +49,10 @@ next_level t level h is inner voxels nx ny nz is_voxels is_x is_y is_z grid is_g
 pub inner_by_cells : (t : Chunking) (level : Level) → IsChunking t → IsLevel t level → 1 < voxel_count level.grid
     → level.number < last_level t
 inner_by_cells t level h is more = elim (cases_lt level.number (last_level t)) [
-    inl lt ↦ lt
+  | inl lt ↦ lt
   | inr ge ↦ (let last : level.number ≡ last_level t = omega (arith, is.reached) in
       absurd (omega (arith, more, cells_of t level is ∙ ap (cells_at t) last ∙ cells_at-last t h)))
-  ]
+]
 
 -- a level of one cell is
 pub last_by_cells : (t : Chunking) (level : Level) → IsChunking t → IsLevel t level → voxel_count level.grid ≤ 1
@@ -60,12 +64,12 @@ last_by_cells t level h is few =
 pub inner_by_node : (t : Chunking) (level : Level) (m : ℕ) → IsLevel t level → m < node_count t
     → level.first + voxel_count level.grid ≤ m → level.number < last_level t
 inner_by_node t level m is below ends = elim (cases_lt level.number (last_level t)) [
-    inl lt ↦ lt
+  | inl lt ↦ lt
   | inr ge ↦ (let last : level.number ≡ last_level t = omega (arith, is.reached) in
       let count : node_count t ≡ level.first + voxel_count level.grid =
-          sym (λ i. (is.first ∙ ap (first_node t) last) i + (cells_of t level is ∙ ap (cells_at t) last) i) in
+      sym (λ i. (is.first ∙ ap (first_node t) last) i + (cells_of t level is ∙ ap (cells_at t) last) i) in
       absurd (omega arith))
-  ]
+]
 
 -- a level that holds a node is that node's
 pub level_by_node : (t : Chunking) (level : Level) (m : ℕ) → IsLevel t level → level.first ≤ m
@@ -111,6 +115,7 @@ has_place t level m is same place read = record {
   where
     grid : level.grid ≡ level_grid t (level_of t m)
     grid = is.grid ∙ ap (level_grid t) same
+
     before : level.first ≡ first_node t (level_of t m)
     before = is.first ∙ ap (first_node t) same
 
@@ -141,7 +146,7 @@ pub begins_before_end : (t : Chunking) (m c : ℕ) → IsChunking t → (k i lea
     → leaf ≡ length_on t.leaf c → scale ≡ 2 ^ k → axis ≡ length_on t.axes c → i * (leaf * scale) < axis
 begins_before_end t m c h k i leaf scale axis is_k below is_leaf is_scale is_axis =
     let same : i * (leaf * scale) ≡ i * cell_length t (level_of t m) c =
-        (λ j. i * (is_leaf j * (is_scale ∙ ap (λ l. 2 ^ l) is_k) j)) in
+    (λ j. i * (is_leaf j * (is_scale ∙ ap (λ l. 2 ^ l) is_k) j)) in
     omega (arith, cell_begins t h (level_of t m) c i below)
 
 -- the children's places begin within the level below
@@ -154,8 +159,8 @@ pub children_begin : (t : Chunking) (m : ℕ) (level : Level) → IsChunking t �
 children_begin t m level h below is next place has =
     let own = place_on_level t m h below place has in
     let grid : level_grid t (level_of t m) ≡ record { nx = div_ceil level.grid.nx 2; ny = div_ceil level.grid.ny 2; nz = div_ceil level.grid.nz 2 } =
-        ap (level_grid t) (sym (add-one level.number ∙ next)) ∙ level_grid-next t h level.number
-        ∙ ap (λ (a : Axes). the_half a) (sym is.grid) in
+    ap (level_grid t) (sym (add-one level.number ∙ next)) ∙ level_grid-next t h level.number
+    ∙ ap (λ (a : Axes). the_half a) (sym is.grid) in
     record {
       in_x = twice_lt (get_or place 0 0) level.grid.nx (subst (λ (a : Axes). get_or place 0 0 < a.nx) grid own.in_x);
       in_y = twice_lt (get_or place 1 0) level.grid.ny (subst (λ (a : Axes). get_or place 1 0 < a.ny) grid own.in_y);
@@ -184,6 +189,7 @@ most_children t m = omega (arith, mul-le-mul (mul-le-mul (pair_le (left 0)) (pai
   where
     left : ℕ → ℕ
     left = λ c. cells_on t (level_of t m - 1) c - 2 * cell_place t m c
+
     pair_le : (n : ℕ) → min 2 n ≤ 2
     pair_le n = omega arith
 
@@ -222,9 +228,9 @@ pub parent_place : (t : Chunking) (m : ℕ) (next : Level) → IsChunking t → 
     → IsPlace next.grid (get_or place 0 0 / 2) (get_or place 1 0 / 2) (get_or place 2 0 / 2)
 parent_place t m next h below is number place has =
     subst (λ (a : Axes). IsPlace a (get_or place 0 0 / 2) (get_or place 1 0 / 2) (get_or place 2 0 / 2))
-        (sym (is.grid ∙ ap (level_grid t) number))
-        (half_place t h (level_of t m) (get_or place 0 0) (get_or place 1 0) (get_or place 2 0)
-            (place_on_level t m h below place has))
+    (sym (is.grid ∙ ap (level_grid t) number))
+    (half_place t h (level_of t m) (get_or place 0 0) (get_or place 1 0) (get_or place 2 0)
+    (place_on_level t m h below place has))
 
 -- and its number is the parent's
 pub parent-is : (t : Chunking) (m : ℕ) (next : Level) → IsChunking t → IsLevel t next
@@ -237,10 +243,13 @@ parent-is t m next h is number place has index is_index =
   where
     grid : next.grid ≡ level_grid t (suc (level_of t m))
     grid = is.grid ∙ ap (level_grid t) number
+
     before : next.first ≡ first_node t (suc (level_of t m))
     before = is.first ∙ ap (first_node t) number
+
     not_root : m ≢ root t
     not_root same = omega (arith, ap (level_of t) same, level_of-root t h, number, is.reached)
+
     inner : (m == root t) ≡ false
     inner = other_number m (root t) not_root
 
@@ -261,5 +270,5 @@ pub leaf_place_at : (t : Chunking) (v : ℕ) → IsChunking t → v < voxel_coun
     → IsPlace leaves (get_or place 0 0 / nx) (get_or place 1 0 / ny) (get_or place 2 0 / nz)
 leaf_place_at t v h below leaves is_leaves place read nx ny nz is_x is_y is_z =
     subst (λ (p : Axes × List ℕ × List ℕ). IsPlace p.0 (get_or p.1 0 0 / get_or p.2 0 0) (get_or p.1 1 0 / get_or p.2 1 0) (get_or p.1 2 0 / get_or p.2 2 0))
-        (λ i. (sym is_leaves i, sym read i, sym is_x i ∷ sym is_y i ∷ sym is_z i ∷ []))
-        (leaf_place t h v below)
+    (λ i. (sym is_leaves i, sym read i, sym is_x i ∷ sym is_y i ∷ sym is_z i ∷ []))
+    (leaf_place t h v below)

@@ -189,7 +189,10 @@ impl Cutting {
             Some(children) => {
                 let [x, y, z] = children.grid.place(i);
                 let below = children.level;
-                below.first + below.grid.voxel(children.x + x, children.y + y, children.z + z)
+                below.first
+                    + below
+                        .grid
+                        .voxel(children.x + x, children.y + y, children.z + z)
             }
         }
     }
@@ -221,7 +224,8 @@ impl Cutting {
         ensures cutting { IsChunking self.now }
     {
         let [x, y, z] = self.dims.place(v);
-        self.leaves.voxel(x / self.leaf.nx(), y / self.leaf.ny(), z / self.leaf.nz())
+        self.leaves
+            .voxel(x / self.leaf.nx(), y / self.leaf.ny(), z / self.leaf.nz())
     }
 
     /// The level of the leaves.

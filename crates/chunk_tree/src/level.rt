@@ -41,7 +41,7 @@ pub(crate) fn span(place: u32, length: u32, axis: u32) -> (u32, u32)
     ensures high { result.1 ≡ min ((place + 1) * length) axis }
 {
     let low = place * length;
-    let high = if axis - low > length { low + length } else { axis };
+    let high = low.saturating_add(length).min(axis);
     (low, high)
 }
 

@@ -23,12 +23,47 @@ fn two_leaves_under_a_root(rt: HostRuntime) -> Result<(), Fail> {
     let cutting = cut(8, 1, 1, [6, 1, 1])?;
     let nodes = cutting.nodes();
     assert!(rt; nodes == 3);
-    assert_eq!(rt; (cutting.level_of(0), cutting.level_of(1), cutting.level_of(2)), (0, 0, 1));
-    assert_eq!(rt; cutting.cell(0), Cell { lo: [0, 0, 0], hi: [6, 1, 1] });
-    assert_eq!(rt; cutting.cell(1), Cell { lo: [6, 0, 0], hi: [8, 1, 1] });
-    assert_eq!(rt; cutting.cell(2), Cell { lo: [0, 0, 0], hi: [8, 1, 1] });
-    assert_eq!(rt; (cutting.artificial(0), cutting.artificial(1), cutting.artificial(2)), (2, 1, 0));
-    assert_eq!(rt; (cutting.parent(0), cutting.parent(1), cutting.parent(2)), (Some(2), Some(2), None));
+    assert_eq!(rt;
+        (
+            cutting.level_of(0),
+            cutting.level_of(1),
+            cutting.level_of(2)
+        ),
+        (0, 0, 1)
+    );
+    assert_eq!(rt;
+        cutting.cell(0),
+        Cell {
+            lo: [0, 0, 0],
+            hi: [6, 1, 1]
+        }
+    );
+    assert_eq!(rt;
+        cutting.cell(1),
+        Cell {
+            lo: [6, 0, 0],
+            hi: [8, 1, 1]
+        }
+    );
+    assert_eq!(rt;
+        cutting.cell(2),
+        Cell {
+            lo: [0, 0, 0],
+            hi: [8, 1, 1]
+        }
+    );
+    assert_eq!(rt;
+        (
+            cutting.artificial(0),
+            cutting.artificial(1),
+            cutting.artificial(2)
+        ),
+        (2, 1, 0)
+    );
+    assert_eq!(rt;
+        (cutting.parent(0), cutting.parent(1), cutting.parent(2)),
+        (Some(2), Some(2), None)
+    );
     assert_eq!(rt; (cutting.child_count(0), cutting.child_count(1)), (0, 0));
     assert!(rt; cutting.child_count(2) == 2);
     assert_eq!(rt; (cutting.child(2, 0), cutting.child(2, 1)), (0, 1));
@@ -40,7 +75,10 @@ fn two_leaves_under_a_root(rt: HostRuntime) -> Result<(), Fail> {
 #[test]
 fn a_cube_of_uneven_cells(rt: HostRuntime) -> Result<(), Fail> {
     let cutting = cut(8, 8, 8, [3, 3, 3])?;
-    assert_eq!(rt; (cutting.levels(), cutting.leaves(), cutting.nodes()), (3, 27, 36));
+    assert_eq!(rt;
+        (cutting.levels(), cutting.leaves(), cutting.nodes()),
+        (3, 27, 36)
+    );
     Ok(())
 }
 
@@ -49,7 +87,10 @@ fn the_most_leaves_and_one_layer_more(rt: HostRuntime) -> Result<(), Fail> {
     let cutting = cut(64, 64, 64, [1, 1, 1])?;
     assert_eq!(rt; (cutting.levels(), cutting.nodes()), (7, 299_593));
     let dims = Dims::new(64, 64, 65)?;
-    assert_eq!(rt; Cutting::new(&dims, [1, 1, 1]), Err(CutFault::TooManyLeaves(266_240)));
+    assert_eq!(rt;
+        Cutting::new(&dims, [1, 1, 1]),
+        Err(CutFault::TooManyLeaves(266_240))
+    );
     Ok(())
 }
 

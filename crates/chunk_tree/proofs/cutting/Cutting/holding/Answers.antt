@@ -10,8 +10,11 @@ pub loop-level-preserved : goal.loop-level-preserved
 loop-level-preserved c = (
   c.above-level.ensures.level,
   c.loop-level.invariant.1,
-  omega (arith, next_first c.args.self.now c.loop-level.level c.above-level.result c.loop-level.invariant.0
-      c.above-level.ensures.level c.above-level.ensures.number),
+  omega (
+    arith,
+    next_first c.args.self.now c.loop-level.level c.above-level.result c.loop-level.invariant.0
+        c.above-level.ensures.level c.above-level.ensures.number,
+  ),
 )
 
 pub returns-clause-number : goal.returns-clause-number
