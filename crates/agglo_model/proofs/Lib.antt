@@ -7,6 +7,9 @@ pub mod Totals
 pub mod ContactEdges
 pub mod FirstPairs
 pub mod Places
+pub mod Rounding
+pub mod Levels
+pub mod NodeCells
 pub mod Names
 pub mod Worked
 pub mod Means

@@ -16,6 +16,9 @@ pub mod Report
 pub mod Words
 pub mod GreedyExamples
 pub mod Cell
+pub mod Cutting
+pub mod CuttingExamples
+pub mod CuttingLaws
 pub mod LabelMap
 pub mod Laws
 pub mod Examples

@@ -3,10 +3,12 @@
 //! It stands on nothing but std, and every other crate stands on it.
 #![tactic(auto)]
 
+pub mod cutting_examples;
 pub mod examples;
 pub mod greedy_examples;
 pub mod laws;
 pub mod laws_of_files;
+pub mod laws_of_cutting;
 pub mod laws_of_means;
 pub mod laws_of_merging;
 

@@ -1,0 +1,62 @@
+use Rattle.std.proofs.Common.{◌∙◌, refl, ap, arith}
+use Rattle.agglo_model.specs.Cutting.{Chunking}
+use Rattle.chunk_tree.proofs.Walks.{has_place, place_on_level, scale_le, length_fits, begins_before_end}
+use Rattle.chunk_tree.proofs.cutting.Cutting.cell.Goals as goal
+
+pub pow-scale-requires : goal.pow-scale-requires
+pow-scale-requires c = omega (
+  arith,
+  scale_le c.args.self.now c.holding-level.result.number
+      c.holding-level.ensures.cutting c.holding-level.ensures.level.reached,
+)
+
+pub overflow_mul-nx : goal.overflow_mul-nx
+overflow_mul-nx c =
+    let scale = scale_le c.args.self.now c.holding-level.result.number
+    c.holding-level.ensures.cutting c.holding-level.ensures.level.reached in
+    length_fits c.nx.result c.pow-scale.result (omega (arith, c.nx.ensures.limits.most_x)) (omega arith)
+
+pub overflow_mul-ny : goal.overflow_mul-ny
+overflow_mul-ny c =
+    let scale = scale_le c.args.self.now c.holding-level.result.number
+    c.holding-level.ensures.cutting c.holding-level.ensures.level.reached in
+    length_fits c.ny.result c.pow-scale.result (omega (arith, c.ny.ensures.limits.most_y)) (omega arith)
+
+pub overflow_mul-nz : goal.overflow_mul-nz
+overflow_mul-nz c =
+    let scale = scale_le c.args.self.now c.holding-level.result.number
+    c.holding-level.ensures.cutting c.holding-level.ensures.level.reached in
+    length_fits c.nz.result c.pow-scale.result (omega (arith, c.nz.ensures.limits.most_z)) (omega arith)
+
+pub span-low_x-requires : goal.span-low_x-requires
+span-low_x-requires c =
+    let has = has_place c.args.self.now c.holding-level.result c.args.m c.holding-level.ensures.level
+    c.holding-level.ensures.number c.place.result c.place.ensures.value in
+    let own = place_on_level c.args.self.now c.args.m c.holding-level.ensures.cutting c.requires c.place.result has in
+    begins_before_end c.args.self.now c.args.m 0 c.holding-level.ensures.cutting
+    c.holding-level.result.number _ c.nx.result c.pow-scale.result c.nx-2.result
+    c.holding-level.ensures.number own.in_x
+    (c.nx.ensures.value ∙ ap (λ (t : Chunking). t.leaf.nx) c.self.view_is) c.pow-scale.ensures
+    (c.nx-2.ensures.value ∙ ap (λ (t : Chunking). t.axes.nx) c.self.view_is)
+
+pub span-low_y-requires : goal.span-low_y-requires
+span-low_y-requires c =
+    let has = has_place c.args.self.now c.holding-level.result c.args.m c.holding-level.ensures.level
+    c.holding-level.ensures.number c.place.result c.place.ensures.value in
+    let own = place_on_level c.args.self.now c.args.m c.holding-level.ensures.cutting c.requires c.place.result has in
+    begins_before_end c.args.self.now c.args.m 1 c.holding-level.ensures.cutting
+    c.holding-level.result.number _ c.ny.result c.pow-scale.result c.ny-2.result
+    c.holding-level.ensures.number own.in_y
+    (c.ny.ensures.value ∙ ap (λ (t : Chunking). t.leaf.ny) c.self.view_is) c.pow-scale.ensures
+    (c.ny-2.ensures.value ∙ ap (λ (t : Chunking). t.axes.ny) c.self.view_is)
+
+pub span-low_z-requires : goal.span-low_z-requires
+span-low_z-requires c =
+    let has = has_place c.args.self.now c.holding-level.result c.args.m c.holding-level.ensures.level
+    c.holding-level.ensures.number c.place.result c.place.ensures.value in
+    let own = place_on_level c.args.self.now c.args.m c.holding-level.ensures.cutting c.requires c.place.result has in
+    begins_before_end c.args.self.now c.args.m 2 c.holding-level.ensures.cutting
+    c.holding-level.result.number _ c.nz.result c.pow-scale.result c.nz-2.result
+    c.holding-level.ensures.number own.in_z
+    (c.nz.ensures.value ∙ ap (λ (t : Chunking). t.leaf.nz) c.self.view_is) c.pow-scale.ensures
+    (c.nz-2.ensures.value ∙ ap (λ (t : Chunking). t.axes.nz) c.self.view_is)

@@ -1,0 +1,2 @@
+pub mod Flaw
+pub mod Levels

@@ -1,0 +1,53 @@
+ghost use Rattle.std.specs.Prelude.{◌≡◌, ◌*◌, ◌+◌, ◌<◌, ◌≤◌, min, if◌then◌else◌};
+ghost use Rattle.agglo_model.specs.Axes.{Axes, IsWithinLimits};
+
+use seg_base::Dims;
+
+/// One level of a cutting: its number, its first node and its cells as a grid.
+#[derive(Clone, Copy)]
+pub(crate) struct Level {
+    pub(crate) number: u32,
+    pub(crate) first: u32,
+    pub(crate) grid: Dims,
+}
+
+/// The children of a node: the place of the first in the grid of their level, and themselves as a small
+/// grid from there on.
+#[derive(Clone, Copy)]
+pub(crate) struct Children {
+    pub(crate) level: Level,
+    pub(crate) x: u32,
+    pub(crate) y: u32,
+    pub(crate) z: u32,
+    pub(crate) grid: Dims,
+}
+
+/// A grid of these lengths.
+#[tactic(auto, using(agglo_model::proofs::AxesLimits::no_flaw))]
+pub(crate) fn grid_of(nx: u32, ny: u32, nz: u32) -> Dims
+    requires { IsWithinLimits (record { nx = nx; ny = ny; nz = nz }) }
+    ensures { result ≡ record { nx = nx; ny = ny; nz = nz } }
+{
+    match Dims::new(nx, ny, nz) {
+        Ok(dims) => dims,
+        Err(_) => unreachable!(),
+    }
+}
+
+/// Where a cell at this place begins and ends on an axis.
+pub(crate) fn span(place: u32, length: u32, axis: u32) -> (u32, u32)
+    requires { place * length < axis }
+    ensures low { result.0 ≡ place * length }
+    ensures high { result.1 ≡ min ((place + 1) * length) axis }
+{
+    let low = place * length;
+    let high = low.saturating_add(length).min(axis);
+    (low, high)
+}
+
+/// A bit that is set or not.
+pub(crate) fn bit(is_set: bool, value: u8) -> u8
+    ensures { result ≡ (if is_set then value else 0) }
+{
+    if is_set { value } else { 0 }
+}
