@@ -26,29 +26,29 @@ first-is : (passes : ℕ → Bool) (n i : ℕ) → i < n → passes i ≡ true �
 first-is passes n i below here before =
     let len = length-range_with_len 0 n in
     position_or_len_is passes (range_with_len 0 n) i 0 (omega arith)
-        (λ j lt. subst (λ x. passes x ≡ false) (sym (in_range n j (omega arith))) (before j lt))
-        (λ lt. subst (λ x. passes x ≡ true) (sym (in_range n i below)) here)
+    (λ j lt. subst (λ x. passes x ≡ false) (sym (in_range n j (omega arith))) (before j lt))
+    (λ lt. subst (λ x. passes x ≡ true) (sym (in_range n i below)) here)
 
 fails_below : (passes : ℕ → Bool) (n j : ℕ) → j < n → j < first passes n → passes j ≡ false
 fails_below passes n j below lt =
     subst (λ x. passes x ≡ false) (in_range n j below)
-        (fails_before_first passes (range_with_len 0 n) j 0 lt)
+    (fails_before_first passes (range_with_len 0 n) j 0 lt)
 
 not_both : (b : Bool) → b ≡ true → b ≡ false → ⊥
 not_both b holds fails = cc
 
 first_le : (passes : ℕ → Bool) (n k : ℕ) → k < n → passes k ≡ true → first passes n ≤ k
 first_le passes n k below here = elim (cases_lt k (first passes n)) [
-    inl lt ↦ absurd (not_both (passes k) here (fails_below passes n k below lt))
+  | inl lt ↦ absurd (not_both (passes k) here (fails_below passes n k below lt))
   | inr le ↦ le
-  ]
+]
 
 first_passes : (passes : ℕ → Bool) (n k : ℕ) → k < n → passes k ≡ true → passes (first passes n) ≡ true
 first_passes passes n k below here =
     let len = length-range_with_len 0 n in
     let le : first passes n ≤ k = first_le passes n k below here in
     subst (λ x. passes x ≡ true) (in_range n (first passes n) (omega arith))
-        (passes_at_first passes (range_with_len 0 n) 0 (omega arith))
+    (passes_at_first passes (range_with_len 0 n) 0 (omega arith))
 
 eq_true : (x y : ℕ) → x ≡ y → (x == y) ≡ true
 eq_true x y e = grind (arith, nat_tests)
@@ -123,8 +123,8 @@ cells_on_one : (t : Chunking) → IsChunking t → (k c : ℕ) → length_on t.a
 unfolding cells_on
 cells_on_one t h k c long = div_ceil_one (length_on t.axes c) (cell_length t k c) (axis_pos t h c)
     (let some : 1 ≤ length_on t.leaf c = leaf_pos t h c in
-     let at_least : 1 * 2 ^ k ≤ length_on t.leaf c * 2 ^ k = mul-le-mul some (le_self (2 ^ k)) in
-     omega arith)
+    let at_least : 1 * 2 ^ k ≤ length_on t.leaf c * 2 ^ k = mul-le-mul some (le_self (2 ^ k)) in
+    omega arith)
   where
     le_self : (x : ℕ) → x ≤ x
     le_self x = omega arith
@@ -144,8 +144,11 @@ level_grid_limits t h k = record {
   most_x = omega (arith, cells_on_le t h k 0, h.limits.most_x);
   most_y = omega (arith, cells_on_le t h k 1, h.limits.most_y);
   most_z = omega (arith, cells_on_le t h k 2, h.limits.most_z);
-  most_voxels = omega (arith, h.limits.most_voxels,
-      mul-le-mul (mul-le-mul (cells_on_le t h k 0) (cells_on_le t h k 1)) (cells_on_le t h k 2));
+  most_voxels = omega (
+    arith,
+    h.limits.most_voxels,
+    mul-le-mul (mul-le-mul (cells_on_le t h k 0) (cells_on_le t h k 1)) (cells_on_le t h k 2),
+  );
 }
 
 -- ---- the last level
@@ -165,31 +168,34 @@ pub cells_at-last : (t : Chunking) → IsChunking t → cells_at t (last_level t
 unfolding last_level
 cells_at-last t h = eq_of_true (cells_at t (last_level t)) 1
     (first_passes (λ k. cells_at t k == 1) (t.axes.nx + t.axes.ny + t.axes.nz) (t.axes.nx + t.axes.ny + t.axes.nz - 1)
-        (omega (arith, h.limits.some_x)) (eq_true (cells_at t (t.axes.nx + t.axes.ny + t.axes.nz - 1)) 1 (one_at_end t h)))
+    (omega (arith, h.limits.some_x)) (eq_true (cells_at t (t.axes.nx + t.axes.ny + t.axes.nz - 1)) 1 (one_at_end t h)))
 
 -- and no level below it has
 pub cells_at-below : (t : Chunking) → IsChunking t → (k : ℕ) → k < last_level t → cells_at t k ≢ 1
 unfolding last_level
 cells_at-below t h k below one = not_both (cells_at t k == 1) (eq_true (cells_at t k) 1 one)
     (fails_below (λ k. cells_at t k == 1) (t.axes.nx + t.axes.ny + t.axes.nz) k
-        (omega (arith, first_le (λ k. cells_at t k == 1) (t.axes.nx + t.axes.ny + t.axes.nz)
-            (t.axes.nx + t.axes.ny + t.axes.nz - 1)
-            (omega (arith, h.limits.some_x)) (eq_true (cells_at t (t.axes.nx + t.axes.ny + t.axes.nz - 1)) 1 (one_at_end t h))))
-        below)
+    (omega (
+      arith,
+      first_le (λ k. cells_at t k == 1) (t.axes.nx + t.axes.ny + t.axes.nz)
+          (t.axes.nx + t.axes.ny + t.axes.nz - 1)
+          (omega (arith, h.limits.some_x)) (eq_true (cells_at t (t.axes.nx + t.axes.ny + t.axes.nz - 1)) 1 (one_at_end t h)),
+    ))
+    below)
 
 -- so a level with one cell, not above the last, is the last
 pub is_last_level : (t : Chunking) → IsChunking t → (k : ℕ) → k ≤ last_level t → cells_at t k ≡ 1 → k ≡ last_level t
 is_last_level t h k le one = elim (cases_lt k (last_level t)) [
-    inl lt ↦ absurd (cells_at-below t h k lt one)
+  | inl lt ↦ absurd (cells_at-below t h k lt one)
   | inr ge ↦ omega arith
-  ]
+]
 
 -- there are at most 17 levels
 pub last_level_le : (t : Chunking) → IsChunking t → last_level t ≤ 16
 last_level_le t h = elim (cases_lt 16 (last_level t)) [
-    inl lt ↦ absurd (cells_at-below t h 16 lt (cells_at_one t 16 (λ c. cells_on_one t h 16 c (omega (arith, axis_le t h c)))))
+  | inl lt ↦ absurd (cells_at-below t h 16 lt (cells_at_one t 16 (λ c. cells_on_one t h 16 c (omega (arith, axis_le t h c)))))
   | inr ge ↦ ge
-  ]
+]
 
 -- ---- the numbers of nodes
 
@@ -231,13 +237,15 @@ on_level t m below = record {
   where
     passes : ℕ → Bool
     passes = λ k. nat_lt m (first_node t (suc k))
+
     at_last : nat_lt m (first_node t (suc (last_level t))) ≡ true
     at_last = lt_true m (node_count t) below
+
     from_level : (k : ℕ) → level_of t m ≡ k → first_node t k ≤ m
     from_level zero is = omega arith
     from_level (suc k) is = le_of_false m (first_node t (suc k))
         (fails_below (λ k. nat_lt m (first_node t (suc k))) (suc (last_level t)) k
-            (omega (arith, is, first_le (λ k. nat_lt m (first_node t (suc k))) (suc (last_level t)) (last_level t) (omega arith) at_last)) (omega (arith, is)))
+        (omega (arith, is, first_le (λ k. nat_lt m (first_node t (suc k))) (suc (last_level t)) (last_level t) (omega arith) at_last)) (omega (arith, is)))
 
 -- ---- how many nodes there are
 
@@ -255,18 +263,18 @@ fewer_by_first x y z x' y' z' much second third = omega (arith, mul-le-mul (mul-
 fewer : (x y z : ℕ) → 0 < x → 0 < y → 0 < z → x * y * z ≢ 1
     → 3 * (div_ceil x 2 * div_ceil y 2 * div_ceil z 2) ≤ 2 * (x * y * z)
 fewer x y z some_x some_y some_z more = elim (cases_lt 1 x) [
-    inl lt ↦ fewer_by_first x y z (div_ceil x 2) (div_ceil y 2) (div_ceil z 2)
-        (half_of_more x lt) (half_le y some_y) (half_le z some_z)
+  | inl lt ↦ fewer_by_first x y z (div_ceil x 2) (div_ceil y 2) (div_ceil z 2)
+      (half_of_more x lt) (half_le y some_y) (half_le z some_z)
   | inr one_x ↦ elim (cases_lt 1 y) [
-      inl lt ↦ (let turned = fewer_by_first y x z (div_ceil y 2) (div_ceil x 2) (div_ceil z 2)
-          (half_of_more y lt) (half_le x some_x) (half_le z some_z) in omega (arith, turned))
+    | inl lt ↦ (let turned = fewer_by_first y x z (div_ceil y 2) (div_ceil x 2) (div_ceil z 2)
+        (half_of_more y lt) (half_le x some_x) (half_le z some_z) in omega (arith, turned))
     | inr one_y ↦ elim (cases_lt 1 z) [
-        inl lt ↦ (let turned = fewer_by_first z x y (div_ceil z 2) (div_ceil x 2) (div_ceil y 2)
-            (half_of_more z lt) (half_le x some_x) (half_le y some_y) in omega (arith, turned))
+      | inl lt ↦ (let turned = fewer_by_first z x y (div_ceil z 2) (div_ceil x 2) (div_ceil y 2)
+          (half_of_more z lt) (half_le x some_x) (half_le y some_y) in omega (arith, turned))
       | inr one_z ↦ absurd (more (all_one x y z (omega arith) (omega arith) (omega arith)))
-      ]
     ]
   ]
+]
   where
     all_one : (x y z : ℕ) → x ≡ 1 → y ≡ 1 → z ≡ 1 → x * y * z ≡ 1
     all_one x y z is_x is_y is_z = rw (is_x, is_y, is_z)
@@ -274,8 +282,8 @@ fewer x y z some_x some_y some_z more = elim (cases_lt 1 x) [
 next_fewer : (t : Chunking) → IsChunking t → (k : ℕ) → k < last_level t → 3 * cells_at t (suc k) ≤ 2 * cells_at t k
 next_fewer t h k below =
     rw (cells_on-suc t h k 0, cells_on-suc t h k 1, cells_on-suc t h k 2)
-        (fewer (cells_on t k 0) (cells_on t k 1) (cells_on t k 2)
-            (cells_on_pos t h k 0) (cells_on_pos t h k 1) (cells_on_pos t h k 2) (cells_at-below t h k below))
+    (fewer (cells_on t k 0) (cells_on t k 1) (cells_on t k 2)
+    (cells_on_pos t h k 0) (cells_on_pos t h k 1) (cells_on_pos t h k 2) (cells_at-below t h k below))
 
 first_node_bound : (t : Chunking) → IsChunking t → (k : ℕ) → k ≤ last_level t
     → first_node t k + 3 * cells_at t k ≤ 3 * cells_at t 0

@@ -53,9 +53,9 @@ cell_of-lt t h k c x below = div-lt-div_ceil x (length_on t.axes c) (cell_length
 -- the cell of a voxel has a place
 pub voxel_cell : (t : Chunking) → IsChunking t → (k v : ℕ) → v < voxel_count t.axes
     → IsPlace (level_grid t k)
-        (coordinate t.axes v 0 / cell_length t k 0)
-        (coordinate t.axes v 1 / cell_length t k 1)
-        (coordinate t.axes v 2 / cell_length t k 2)
+    (coordinate t.axes v 0 / cell_length t k 0)
+    (coordinate t.axes v 1 / cell_length t k 1)
+    (coordinate t.axes v 2 / cell_length t k 2)
 voxel_cell t h k v below =
     let place = place-voxel t.axes v h.limits below in
     record {
@@ -142,10 +142,10 @@ leaf_place t h v below =
 -- and its number
 pub leaf_of-place : (t : Chunking) (v : ℕ)
     → voxel_at (level_grid t 0) (coordinate t.axes v 0 / t.leaf.nx) (coordinate t.axes v 1 / t.leaf.ny) (coordinate t.axes v 2 / t.leaf.nz)
-      ≡ leaf_of t v
+    ≡ leaf_of t v
 leaf_of-place t v =
     (λ i. voxel_at (level_grid t 0)
-        (coordinate t.axes v 0 / sym (cell_length-leaf t 0) i)
-        (coordinate t.axes v 1 / sym (cell_length-leaf t 1) i)
-        (coordinate t.axes v 2 / sym (cell_length-leaf t 2) i))
+    (coordinate t.axes v 0 / sym (cell_length-leaf t 0) i)
+    (coordinate t.axes v 1 / sym (cell_length-leaf t 1) i)
+    (coordinate t.axes v 2 / sym (cell_length-leaf t 2) i))
     ∙ omega arith

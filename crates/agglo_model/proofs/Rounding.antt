@@ -9,10 +9,10 @@ use Rattle.std.proofs.Math.Nat.{mod-lt, mul-le-mul_right, div-div-eq-div-mul, di
 -- two multiples of l that are both the least from n on have the same quotient
 same_multiple : (n l x y : ℕ) → n ≤ x * l → x * l < n + l → n ≤ y * l → y * l < n + l → x ≡ y
 same_multiple n l x y from_x to_x from_y to_y = elim (cases_order x y) [
-    inl same ↦ same
+  | inl same ↦ same
   | inr (inl less) ↦ (let le : suc x ≤ y = omega arith in absurd (omega (arith, mul-le-mul_right l le)))
   | inr (inr more) ↦ (let le : suc y ≤ x = omega arith in absurd (omega (arith, mul-le-mul_right l le)))
-  ]
+]
 
 -- the cells that cover n voxels are the last voxel's cell and those before it
 pub div_ceil-last : (n l : ℕ) → 0 < n → 0 < l → div_ceil n l ≡ (n - 1) / l + 1

@@ -7,8 +7,8 @@ pub mod cutting_examples;
 pub mod examples;
 pub mod greedy_examples;
 pub mod laws;
-pub mod laws_of_files;
 pub mod laws_of_cutting;
+pub mod laws_of_files;
 pub mod laws_of_means;
 pub mod laws_of_merging;
 
