@@ -23,3 +23,9 @@ pub mod LabelMap
 pub mod Laws
 pub mod Examples
 pub mod Numbers
+pub mod Connected
+pub mod Freezing
+pub mod Work
+pub mod RegionGraph
+pub mod Settling
+pub mod NodeLaws

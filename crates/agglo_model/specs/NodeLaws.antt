@@ -1,0 +1,91 @@
+-- Why work on chunks gives the answer of the whole volume: what holds of connected labels, of frozen names,
+-- and of the works of all nodes.
+use Rattle.std.specs.Prelude.{◌≡◌, ◌≢◌, ℕ, ◌+◌, ◌<◌, ◌↔◌, ◌⊎◌, true, IsTrue, List, Some, Contains}
+use Rattle.agglo_model.specs.Axes.{voxel_count}
+use Rattle.agglo_model.specs.Cell.{IsInBox}
+use Rattle.agglo_model.specs.Grid.{Grid}
+use Rattle.agglo_model.specs.Basins.{AreBasins, label_of}
+use Rattle.agglo_model.specs.PairOrder.{Threshold, Reaches}
+use Rattle.agglo_model.specs.Contacts.{joins, between, InContact, renamed}
+use Rattle.agglo_model.specs.Greedy.{Merge, IsMutualRun}
+use Rattle.agglo_model.specs.MergeLaws.{SameOutcome}
+use Rattle.agglo_model.specs.Connected.{AreConnected}
+use Rattle.agglo_model.specs.Cutting.{Chunking, IsChunking, node_count, cells_at, parent, low_corner, high_corner}
+use Rattle.agglo_model.specs.Freezing.{is_held, is_inside, occurs_in, IsFrozen}
+use Rattle.agglo_model.specs.Work.{IsFree, IsWork, IsOrderedWork, AreWorks, work_of, labels_before, labels_after, IsPassed, FirstPairReaches, IsFirstPartner, all_merges}
+
+-- the cell of a node, as a box
+abbrev pub CellsAreBoxes : Type 0
+CellsAreBoxes = (c : Chunking) (m v : ℕ) → IsChunking c → m < node_count c → v < voxel_count c.axes
+    → (is_held c m v ≡ true) ↔ IsInBox c.axes (low_corner c m) (high_corner c m) v
+
+-- basins are connected
+abbrev pub BasinsAreConnected : Type 0
+BasinsAreConnected = (g : Grid) (low : ℕ) (labels : List ℕ) → AreBasins g low labels → AreConnected g.axes labels
+
+-- a merge of two names in contact keeps all names connected
+abbrev pub MergesKeepConnected : Type 0
+MergesKeepConnected = (g : Grid) (labels : List ℕ) (a b : ℕ) → InContact g labels a b
+    → AreConnected g.axes labels → AreConnected g.axes (renamed labels a b)
+
+-- a name that is free in a node lies in its cell with all its voxels and all its contact edges
+pub record LiesInside (g : Grid) (c : Chunking) (m : ℕ) (labels : List ℕ) (x : ℕ) : Type 0 where
+  pub voxels : (v : ℕ) → label_of labels v ≡ x → is_held c m v ≡ true
+  pub contacts : (y e : ℕ) → joins g labels x y e ≡ true → is_inside c m e ≡ true
+
+abbrev pub FreeNamesLieInside : Type 0
+FreeNamesLieInside = (g : Grid) (c : Chunking) (m : ℕ) (labels : List ℕ) (x : ℕ) → IsChunking c → c.axes ≡ g.axes
+    → m < node_count c → AreConnected g.axes labels → x ≢ 0 → IsFree c m labels x → LiesInside g c m labels x
+
+-- works of a node in whatever order give the same labels, by the same merges in some order
+abbrev pub WorksAgree : Type 0
+WorksAgree = (g : Grid) (t : Threshold) (c : Chunking) (m : ℕ) (labels : List ℕ) (work other : List Merge)
+    → IsWork g t c m labels work → IsWork g t c m labels other → SameOutcome labels work other
+
+-- the work in pair order is one of them
+abbrev pub OrderedWorkIsWork : Type 0
+OrderedWorkIsWork = (g : Grid) (t : Threshold) (c : Chunking) (m : ℕ) (labels : List ℕ) (work : List Merge)
+    → IsOrderedWork g t c m labels work → IsWork g t c m labels work
+
+-- what the laws below are about: all works on a connected list of labels
+pub record AreWorksOn (g : Grid) (t : Threshold) (c : Chunking) (labels : List ℕ) (works : List (List Merge)) : Type 0 where
+  pub cutting : IsChunking c
+  pub axes : c.axes ≡ g.axes
+  pub connected : AreConnected g.axes labels
+  pub works_are : AreWorks g t c labels works
+
+-- a name that is frozen in a node after its work has the voxels that it had at the start
+abbrev pub FrozenNamesAreWhole : Type 0
+FrozenNamesAreWhole = (g : Grid) (t : Threshold) (c : Chunking) (labels : List ℕ) (works : List (List Merge))
+    → AreWorksOn g t c labels works → (m : ℕ) → m < node_count c → (x : ℕ) → IsFrozen c m (labels_after labels works m) x
+    → (v : ℕ) → (label_of (labels_after labels works m) v ≡ x) ↔ (label_of labels v ≡ x)
+
+-- no work between that of a node and that of its parent changes a label in the node's cell
+abbrev pub CellsWait : Type 0
+CellsWait = (g : Grid) (t : Threshold) (c : Chunking) (labels : List ℕ) (works : List (List Merge))
+    → AreWorksOn g t c labels works → (m p : ℕ) → m < node_count c → parent c m ≡ Some p
+    → (v : ℕ) → is_held c m v ≡ true → label_of (labels_before labels works p) v ≡ label_of (labels_after labels works m) v
+
+-- before the work of a leaf, the labels in its cell are those from the start
+abbrev pub LeavesStartFresh : Type 0
+LeavesStartFresh = (g : Grid) (t : Threshold) (c : Chunking) (labels : List ℕ) (works : List (List Merge))
+    → AreWorksOn g t c labels works → (m : ℕ) → m < cells_at c 0
+    → (v : ℕ) → is_held c m v ≡ true → label_of (labels_before labels works m) v ≡ label_of labels v
+
+-- a name of a cell that isn't passed is in no later merge, and never the first partner in a pair that reaches
+pub record IsDropped (g : Grid) (t : Threshold) (labels : List ℕ) (works : List (List Merge)) (m x : ℕ) : Type 0 where
+  pub in_no_merge : (n : ℕ) (merge : Merge) → m < n → Contains (work_of works n) merge
+      → (merge.survivor ≢ x) × (merge.absorbed ≢ x)
+  pub in_no_pair : (n y z : ℕ) → m < n → IsFirstPartner g (labels_before labels works n) y z
+      → Reaches t (between g (labels_before labels works n) y z) → (y ≢ x) × (z ≢ x)
+
+abbrev pub DroppedNamesStay : Type 0
+DroppedNamesStay = (g : Grid) (t : Threshold) (c : Chunking) (labels : List ℕ) (works : List (List Merge))
+    → AreWorksOn g t c labels works → (m x : ℕ) → m < node_count c → x ≢ 0
+    → IsTrue (occurs_in c m (labels_after labels works m) x)
+    → ¬ (IsPassed g t c m (labels_after labels works m) x) → IsDropped g t labels works m x
+
+-- the works of all nodes, one after another, are a run of reciprocal merges of the whole volume
+abbrev pub WorksAreRun : Type 0
+WorksAreRun = (g : Grid) (t : Threshold) (c : Chunking) (labels : List ℕ) (works : List (List Merge))
+    → AreWorksOn g t c labels works → IsMutualRun g t labels (all_merges works)
