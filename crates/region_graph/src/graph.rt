@@ -1,0 +1,116 @@
+ghost use Rattle.std.specs.Prelude.{◌≡◌};
+ghost use Rattle.agglo_model.specs.RegionGraph.{IsGraph, IsWithinEdges, RegionGraph};
+
+use mean_fraction::Contact;
+use std::marker::Model;
+
+/// A name in a cell, and the artificial faces of the cell that it touches: 1 and 2 for the low and the
+/// high one on x, 4 and 8 on y, 16 and 32 on z, added up.
+#[derive(Clone, Copy, Debug, PartialEq, Eq)]
+pub struct Region {
+    pub name: u32,
+    pub faces: u8,
+}
+
+impl Model for Region {
+    ghost use Rattle.agglo_model.specs.RegionGraph.{Region as NameWithFaces};
+
+    ghost Value = { NameWithFaces };
+
+    ghost view = { λ r. record { name = r.name; faces = r.faces } };
+
+    ghost inverse = { λ r. record { name = r.name; faces = r.faces } };
+}
+
+/// Two names in contact, `a` the smaller one, and their contact.
+#[derive(Clone, Copy, Debug, PartialEq, Eq)]
+pub struct Edge {
+    pub a: u32,
+    pub b: u32,
+    pub contact: Contact,
+}
+
+impl Model for Edge {
+    ghost use Rattle.agglo_model.specs.RegionGraph.{GraphEdge};
+
+    ghost Value = { GraphEdge };
+
+    ghost view = { λ e. record { a = e.a; b = e.b; contact = e.contact } };
+
+    ghost inverse = { λ e. record { a = e.a; b = e.b; contact = e.contact } };
+}
+
+/// Regions by ascending name, and edges between them by ascending names of both ends, each once. All
+/// contacts together have at most as many edges of the grid as the largest volume.
+#[derive(Drop)]
+pub struct Graph {
+    regions: Vec<Region>,
+    edges: Vec<Edge>,
+}
+
+impl Model for Graph {
+    ghost use Rattle.agglo_model.specs.RegionGraph.{IsGraph, IsWithinEdges, RegionGraph};
+
+    ghost Value = { RegionGraph };
+
+    ghost view = { λ g. record { regions = g.regions.items; edges = g.edges.items } };
+
+    ghost invariant = { λ g. IsGraph (record { regions = g.regions.items; edges = g.edges.items })
+        × IsWithinEdges (record { regions = g.regions.items; edges = g.edges.items }) };
+}
+
+/// The two lists of a graph.
+#[derive(Drop)]
+pub struct Parts {
+    pub regions: Vec<Region>,
+    pub edges: Vec<Edge>,
+}
+
+impl Graph {
+    /// The graph of these regions and edges.
+    pub fn of(regions: Vec<Region>, edges: Vec<Edge>) -> Graph
+        requires graph { IsGraph (record { regions = regions.items; edges = edges.items }) }
+        requires within { IsWithinEdges (record { regions = regions.items; edges = edges.items }) }
+        ensures { result ≡ record { regions = regions.items; edges = edges.items } }
+    {
+        Graph { regions, edges }
+    }
+
+    /// The regions, by ascending name.
+    pub fn regions(&self) -> &[Region]
+        ensures value { result.now ≡ self.now.regions }
+        ensures graph { IsGraph self.now }
+        ensures within { IsWithinEdges self.now }
+    {
+        &self.regions
+    }
+
+    /// The edges, by ascending names of their ends.
+    pub fn edges(&self) -> &[Edge]
+        ensures value { result.now ≡ self.now.edges }
+        ensures graph { IsGraph self.now }
+        ensures within { IsWithinEdges self.now }
+    {
+        &self.edges
+    }
+
+    /// Both lists, to be changed.
+    pub fn into_parts(self) -> Parts
+        ensures regions { result.regions.items ≡ self.regions }
+        ensures edges { result.edges.items ≡ self.edges }
+        ensures graph { IsGraph self }
+        ensures within { IsWithinEdges self }
+    {
+        Parts {
+            regions: self.regions,
+            edges: self.edges,
+        }
+    }
+}
+
+/// The graph of the names that a node passes to its parent.
+#[derive(Drop)]
+pub struct Residue {
+    pub node: u32,
+    pub graph: Graph,
+}

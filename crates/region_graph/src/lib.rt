@@ -1,0 +1,12 @@
+//! Region graphs: the names in the cell of a node and their contacts there, made from the labels of the
+//! cell of a leaf.
+//!
+//! It stands on `volume_file` for affinities, on `chunk_tree` for cells and on `mean_fraction` for contacts.
+//! What merges regions and what joins the graphs of children stands on it.
+#![tactic(auto)]
+
+mod graph;
+mod site;
+
+pub use graph::{Edge, Graph, Parts, Region, Residue};
+pub use site::Site;
