@@ -23,3 +23,6 @@ pub mod FirstExists
 pub mod SortedMerges
 pub mod LawfulMerges
 pub mod Digits
+pub mod Paths
+pub mod ConnectedBasins
+pub mod ConnectedMerges
