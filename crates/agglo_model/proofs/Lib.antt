@@ -26,3 +26,5 @@ pub mod Digits
 pub mod Paths
 pub mod ConnectedBasins
 pub mod ConnectedMerges
+pub mod Freezing
+pub mod ConnectedWorks
