@@ -28,3 +28,7 @@ pub mod ConnectedBasins
 pub mod ConnectedMerges
 pub mod Freezing
 pub mod ConnectedWorks
+pub mod CellBoxes
+pub mod CloseVoxels
+pub mod Crossings
+pub mod FreeNames

@@ -1,7 +1,7 @@
 //! Why work on chunks gives the answer of the whole volume. Each function has no body: its contract
 //! is the law, over the definitions alone.
 
-ghost use Rattle.agglo_model.specs.NodeLaws.{BasinsAreConnected, MergesKeepConnected};
+ghost use Rattle.agglo_model.specs.NodeLaws.{BasinsAreConnected, CellsAreBoxes, FreeNamesLieInside, MergesKeepConnected};
 
 /// Any two voxels of a basin are joined by a path of edges inside the basin.
 pub fn basins_are_connected()
@@ -12,4 +12,18 @@ pub fn basins_are_connected()
 #[tactic(auto, using(crate::proofs::ConnectedMerges::merges_keep_connected))]
 pub fn merges_keep_names_connected()
     ensures { MergesKeepConnected }
+{}
+
+/// The cell of a node is a box: it holds the voxels whose coordinates are in the ranges from the low
+/// corner up to the high one.
+#[tactic(auto, using(crate::proofs::CellBoxes::cells_are_boxes))]
+pub fn cells_are_boxes()
+    ensures { CellsAreBoxes }
+{}
+
+/// A name that occurs in the cell of a node, and isn't frozen there, lies in the cell with all its
+/// voxels, and so do both ends of each of its contact edges.
+#[tactic(auto, using(crate::proofs::FreeNames::free_names_lie_inside))]
+pub fn free_names_lie_inside()
+    ensures { FreeNamesLieInside }
 {}
