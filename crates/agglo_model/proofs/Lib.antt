@@ -18,6 +18,7 @@ pub mod Reducible
 pub mod Neighbours
 pub mod Diamonds
 pub mod Falling
+pub mod PairRuns
 pub mod MutualRuns
 pub mod FirstExists
 pub mod SortedMerges
@@ -32,3 +33,4 @@ pub mod CellBoxes
 pub mod CloseVoxels
 pub mod Crossings
 pub mod FreeNames
+pub mod NodeRuns

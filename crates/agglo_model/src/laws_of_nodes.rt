@@ -1,7 +1,7 @@
 //! Why work on chunks gives the answer of the whole volume. Each function has no body: its contract
 //! is the law, over the definitions alone.
 
-ghost use Rattle.agglo_model.specs.NodeLaws.{BasinsAreConnected, CellsAreBoxes, FreeNamesLieInside, MergesKeepConnected};
+ghost use Rattle.agglo_model.specs.NodeLaws.{BasinsAreConnected, CellsAreBoxes, FreeNamesLieInside, MergesKeepConnected, OrderedWorkIsWork, WorksAgree};
 
 /// Any two voxels of a basin are joined by a path of edges inside the basin.
 pub fn basins_are_connected()
@@ -26,4 +26,17 @@ pub fn cells_are_boxes()
 #[tactic(auto, using(crate::proofs::FreeNames::free_names_lie_inside))]
 pub fn free_names_lie_inside()
     ensures { FreeNamesLieInside }
+{}
+
+/// Merging the reciprocal pairs of a node in whatever order, until none is left, ends in the same
+/// labels, by the same merges in some order.
+#[tactic(auto, using(crate::proofs::NodeRuns::works_agree))]
+pub fn works_of_a_node_agree()
+    ensures { WorksAgree }
+{}
+
+/// Merging the first reciprocal pair of a node each time is one of these orders.
+#[tactic(auto, using(crate::proofs::NodeRuns::ordered_work_is_work))]
+pub fn ordered_work_is_work()
+    ensures { OrderedWorkIsWork }
 {}
