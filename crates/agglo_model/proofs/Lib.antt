@@ -34,3 +34,8 @@ pub mod CloseVoxels
 pub mod Crossings
 pub mod FreeNames
 pub mod NodeRuns
+pub mod Works
+pub mod NodeNesting
+pub mod WaitingCells
+pub mod NestedFaces
+pub mod FrozenNames

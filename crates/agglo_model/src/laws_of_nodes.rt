@@ -1,7 +1,7 @@
 //! Why work on chunks gives the answer of the whole volume. Each function has no body: its contract
 //! is the law, over the definitions alone.
 
-ghost use Rattle.agglo_model.specs.NodeLaws.{BasinsAreConnected, CellsAreBoxes, FreeNamesLieInside, MergesKeepConnected, OrderedWorkIsWork, WorksAgree};
+ghost use Rattle.agglo_model.specs.NodeLaws.{BasinsAreConnected, CellsAreBoxes, CellsWait, FreeNamesLieInside, FrozenNamesAreWhole, LeavesStartFresh, MergesKeepConnected, OrderedWorkIsWork, WorksAgree};
 
 /// Any two voxels of a basin are joined by a path of edges inside the basin.
 pub fn basins_are_connected()
@@ -39,4 +39,21 @@ pub fn works_of_a_node_agree()
 #[tactic(auto, using(crate::proofs::NodeRuns::ordered_work_is_work))]
 pub fn ordered_work_is_work()
     ensures { OrderedWorkIsWork }
+{}
+
+/// Before the work of a leaf, the labels in its cell are those from the start.
+#[tactic(auto, using(crate::proofs::WaitingCells::leaves_start_fresh))]
+pub fn leaves_start_fresh()
+    ensures { LeavesStartFresh }
+{}
+
+/// From the work of a node to that of its parent, the labels in the node's cell stay as they are.
+#[tactic(auto, using(crate::proofs::WaitingCells::cells_wait))]
+pub fn cells_wait_for_the_parent()
+    ensures { CellsWait }
+{}
+
+/// A name that is frozen in a node after its work has just the voxels that it had at the start.
+pub fn frozen_names_are_whole()
+    ensures { FrozenNamesAreWhole }
 {}
