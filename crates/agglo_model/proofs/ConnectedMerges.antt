@@ -13,17 +13,18 @@ use Rattle.agglo_model.proofs.FirstPairs.{names_are}
 use Rattle.agglo_model.proofs.Paths.{AreJoined, joined_by, joined_then, joined_back, joined_under}
 
 -- two neighbours with the names a and b
-record IsBridge (a : Axes) (labels : List ℕ) (x y : ℕ) : Type 0 where
-  from : ℕ
-  to : ℕ
-  near : AreNeighbours a from to
-  from_is : label_of labels from ≡ x
-  to_is : label_of labels to ≡ y
+pub record IsBridge (a : Axes) (labels : List ℕ) (x y : ℕ) : Type 0 where
+  pub from : ℕ
+  pub to : ℕ
+  pub near : AreNeighbours a from to
+  pub from_is : label_of labels from ≡ x
+  pub to_is : label_of labels to ≡ y
 
 edge_part : (i d r : Bool) → ((i && d) && r) ≡ true → IsTrue i
 edge_part i d r pass = grind arith
 
-bridge : (g : Grid) (labels : List ℕ) (a b : ℕ) → InContact g labels a b → IsBridge g.axes labels a b
+-- names in contact have a bridge
+pub bridge : (g : Grid) (labels : List ℕ) (a b : ℕ) → InContact g labels a b → IsBridge g.axes labels a b
 bridge g labels a b touching = by_names (names_are (is_edge g.axes e) (lower_label g labels e) (higher_label g labels e) a b joined)
   where
     e : ℕ

@@ -58,10 +58,12 @@ InContact-absorbed g labels a b c ab pb touching =
     ∙ sym (joins-renamed g labels a b c b e pb)
     ∙ InContact-tie g (renamed labels a b) c b touching)
 
-count_cases : (m n : ℕ) → 0 < m + n → ((0 < m) × (0 < n)) ⊎ ((0 < m) × (0 < n → ⊥)) ⊎ ((0 < m → ⊥) × (0 < n))
+-- which of two contacts has edges, where they have some together
+pub count_cases : (m n : ℕ) → 0 < m + n → ((0 < m) × (0 < n)) ⊎ ((0 < m) × (0 < n → ⊥)) ⊎ ((0 < m → ⊥) × (0 < n))
 count_cases m n h = grind arith
 
-name_cases : (e a b : ℕ) → (e ≡ a) ⊎ (e ≡ b) ⊎ ((e ≢ a) × (e ≢ b))
+-- a name is the one, the other, or neither
+pub name_cases : (e a b : ℕ) → (e ≡ a) ⊎ (e ≡ b) ⊎ ((e ≢ a) × (e ≢ b))
 name_cases e a b = grind arith
 
 -- what comes before the contacts of c with a and with b comes before the one that they merge into

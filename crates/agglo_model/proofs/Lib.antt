@@ -20,7 +20,9 @@ pub mod Diamonds
 pub mod Falling
 pub mod PairRuns
 pub mod MutualRuns
+pub mod FirstEdges
 pub mod FirstExists
+pub mod FirstPartners
 pub mod SortedMerges
 pub mod LawfulMerges
 pub mod Digits
@@ -39,3 +41,7 @@ pub mod NodeNesting
 pub mod WaitingCells
 pub mod NestedFaces
 pub mod FrozenNames
+pub mod StuckNames
+pub mod DroppedNames
+pub mod RootCell
+pub mod WorksRun

@@ -1,7 +1,7 @@
 //! Why work on chunks gives the answer of the whole volume. Each function has no body: its contract
 //! is the law, over the definitions alone.
 
-ghost use Rattle.agglo_model.specs.NodeLaws.{BasinsAreConnected, CellsAreBoxes, CellsWait, FreeNamesLieInside, FrozenNamesAreWhole, LeavesStartFresh, MergesKeepConnected, OrderedWorkIsWork, WorksAgree};
+ghost use Rattle.agglo_model.specs.NodeLaws.{BasinsAreConnected, CellsAreBoxes, CellsWait, DroppedNamesStay, FreeNamesLieInside, FrozenNamesAreWhole, LeavesStartFresh, MergesKeepConnected, OrderedWorkIsWork, WorksAgree, WorksAreRun};
 
 /// Any two voxels of a basin are joined by a path of edges inside the basin.
 pub fn basins_are_connected()
@@ -56,4 +56,17 @@ pub fn cells_wait_for_the_parent()
 /// A name that is frozen in a node after its work has just the voxels that it had at the start.
 pub fn frozen_names_are_whole()
     ensures { FrozenNamesAreWhole }
+{}
+
+/// A name of a cell that a node doesn't pass to its parent is in no later merge, and is never one of the
+/// two of a first pair that reaches the threshold.
+#[tactic(auto, using(crate::proofs::DroppedNames::dropped_names_stay))]
+pub fn dropped_names_stay()
+    ensures { DroppedNamesStay }
+{}
+
+/// The works of all nodes, one after another, are a run of reciprocal merges of the whole volume.
+#[tactic(auto, using(crate::proofs::WorksRun::works_are_run))]
+pub fn works_are_a_run()
+    ensures { WorksAreRun }
 {}
