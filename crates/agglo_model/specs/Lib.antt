@@ -29,3 +29,4 @@ pub mod Work
 pub mod RegionGraph
 pub mod Settling
 pub mod NodeLaws
+pub mod Segmentation
