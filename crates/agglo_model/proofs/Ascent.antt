@@ -180,7 +180,8 @@ basin_name_on g low v w e f b ends c ne = one_more g low v
     ∙ climb_on g low (enough_steps g) v w e f b ends c ne
     ∙ climb_is_name g low (enough_steps g) w (within_all g low w)
 
-flip_ends : (a : Axes) (e v w : ℕ) → AreEnds a e v w → AreEnds a e w v
+-- the two ends of an edge in the other order
+pub flip_ends : (a : Axes) (e v w : ℕ) → AreEnds a e v w → AreEnds a e w v
 flip_ends a e v w (inl p) = inr p
 flip_ends a e v w (inr p) = inl p
 

@@ -14,7 +14,7 @@ use Rattle.agglo_model.proofs.Totals.{edge_at}
 use Rattle.agglo_model.proofs.ContactEdges.{joins-edge, InContact-tie, between-swap}
 
 -- a test of all edge numbers that passes, passes at each
-at_edge : (g : Grid) (p : ℕ → Bool) (e : ℕ) → e < edge_count g.axes
+pub at_edge : (g : Grid) (p : ℕ → Bool) (e : ℕ) → e < edge_count g.axes
     → list_all p (edge_numbers g) ≡ true → p e ≡ true
 at_edge g p e below all =
     let len = length-range_with_len 0 (edge_count g.axes) in

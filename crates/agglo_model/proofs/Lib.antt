@@ -45,3 +45,4 @@ pub mod StuckNames
 pub mod DroppedNames
 pub mod RootCell
 pub mod WorksRun
+pub mod NodeTests

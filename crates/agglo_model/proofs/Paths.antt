@@ -1,19 +1,17 @@
 -- Paths inside one name: one after another, backwards, and under other labels.
-use Rattle.std.proofs.Common.{◌≡◌, inl, inr, ℕ, zero, suc, List, refl, sym, subst}
-use Rattle.agglo_model.specs.Axes.{Axes, AreEnds}
+use Rattle.std.proofs.Common.{◌≡◌, ℕ, zero, suc, List, refl, sym, subst}
+use Rattle.agglo_model.specs.Axes.{Axes}
 use Rattle.agglo_model.specs.Basins.{label_of}
 use Rattle.agglo_model.specs.Connected.{AreNeighbours, IsPath}
+use Rattle.agglo_model.proofs.Ascent.{flip_ends}
 
 -- some path inside the name x leads from v to w
 abbrev pub AreJoined : Axes → List ℕ → ℕ → ℕ → ℕ → Type 0
 AreJoined a labels x v w = (k : ℕ) × IsPath a labels x k v w
 
-pub ends_swap : (a : Axes) (e v w : ℕ) → AreEnds a e v w → AreEnds a e w v
-ends_swap a e v w (inl p) = inr p
-ends_swap a e v w (inr p) = inl p
-
+-- neighbours in the other order
 pub neighbours_swap : (a : Axes) (v w : ℕ) → AreNeighbours a v w → AreNeighbours a w v
-neighbours_swap a v w (e, edge, ends) = (e, edge, ends_swap a e v w ends)
+neighbours_swap a v w (e, edge, ends) = (e, edge, flip_ends a e v w ends)
 
 -- a path has the name where it begins
 pub path_name : (a : Axes) (labels : List ℕ) (x k v w : ℕ) → IsPath a labels x k v w → label_of labels v ≡ x

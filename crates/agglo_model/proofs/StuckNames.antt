@@ -1,5 +1,6 @@
 -- A name is stuck where none of its contacts reaches the threshold: it stays so, and no merge takes it.
 use Rattle.std.proofs.Common.{◌≡◌, ◌≢◌, ◌⊎◌, inl, inr, ℕ, ◌+◌, ◌<◌, List, sym, ◌∙◌, subst, arith}
+use Rattle.std.proofs.lemmas.Bool.{cases_eq}
 use Rattle.agglo_model.specs.Grid.{Grid}
 use Rattle.agglo_model.specs.PairOrder.{Contact, Threshold, Reaches, added}
 use Rattle.agglo_model.specs.Contacts.{between, InContact, renamed}
@@ -18,15 +19,12 @@ use Rattle.agglo_model.proofs.Works.{StepsKeep}
 abbrev pub IsStuck : Grid → Threshold → ℕ → List ℕ → Type 0
 IsStuck g t x labels = (y : ℕ) → InContact g labels x y → ¬ (Reaches t (between g labels x y))
 
-same_or_apart : (y z : ℕ) → (y ≡ z) ⊎ (y ≢ z)
-same_or_apart y z = grind arith
-
 -- a name whose first pair doesn't reach is stuck
 pub stuck_from_first : (g : Grid) (t : Threshold) (labels : List ℕ) (x : ℕ) → ¬ (FirstPairReaches g t labels x)
     → IsStuck g t x labels
 stuck_from_first g t labels x low y touching reaches = elim (first_partner_exists g labels x) [
   | inl none ↦ none y touching
-  | inr (z, first) ↦ low (z, first, by_partner z first (same_or_apart y z))
+  | inr (z, first) ↦ low (z, first, by_partner z first (cases_eq y z))
 ]
   where
     by_partner : (z : ℕ) → IsFirstPartner g labels x z → (y ≡ z) ⊎ (y ≢ z) → Reaches t (between g labels x z)

@@ -30,3 +30,4 @@ pub mod RegionGraph
 pub mod Settling
 pub mod NodeLaws
 pub mod Segmentation
+pub mod NodeExamples

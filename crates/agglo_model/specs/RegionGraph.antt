@@ -1,6 +1,5 @@
 -- Region graphs: the names in a cell and their contacts there.
-use Rattle.std.specs.Prelude.{◌≡◌, ◌≢◌, ℕ, ◌+◌, ◌<◌, ◌≤◌, ◌==◌, ◌⊎◌, ◌↔◌, min, Bool, ◌&&◌, ◌||◌, IsTrue, if◌then◌else◌, List, map, filter, fold, sum_by, Contains, AllPairs}
-use Rattle.agglo_model.specs.Axes.{edge_count}
+use Rattle.std.specs.Prelude.{◌≡◌, ◌≢◌, ℕ, ◌<◌, ◌≤◌, ◌⊎◌, ◌↔◌, Bool, ◌&&◌, IsTrue, List, map, filter, fold, sum_by, Contains, AllPairs}
 use Rattle.agglo_model.specs.Grid.{Grid}
 use Rattle.agglo_model.specs.PairOrder.{Contact, Threshold, added, most_edges}
 use Rattle.agglo_model.specs.Contacts.{are, joins, total}

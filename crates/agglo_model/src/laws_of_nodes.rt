@@ -65,7 +65,8 @@ pub fn dropped_names_stay()
     ensures { DroppedNamesStay }
 {}
 
-/// The works of all nodes, one after another, are a run of reciprocal merges of the whole volume.
+/// The works of all nodes, one after another, are a run of reciprocal merges of the whole volume. So they
+/// end in the labels of greedy agglomeration, by the law `any_order_is_greedy`.
 #[tactic(auto, using(crate::proofs::WorksRun::works_are_run))]
 pub fn works_are_a_run()
     ensures { WorksAreRun }

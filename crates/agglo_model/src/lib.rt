@@ -12,6 +12,7 @@ pub mod laws_of_files;
 pub mod laws_of_means;
 pub mod laws_of_merging;
 pub mod laws_of_nodes;
+pub mod node_examples;
 
 use std::alloc::{AllocError, AllocFailed};
 

@@ -1,0 +1,34 @@
+-- A row of eight voxels in two leaves, and what its nodes do.
+use Rattle.std.specs.Prelude.{ℕ, List, [], ◌∷◌}
+use Rattle.agglo_model.specs.Axes.{Axes}
+use Rattle.agglo_model.specs.Grid.{Grid}
+use Rattle.agglo_model.specs.Greedy.{Merge}
+use Rattle.agglo_model.specs.Cutting.{Chunking}
+use Rattle.agglo_model.specs.CuttingExamples.{cut_row}
+use Rattle.agglo_model.specs.GreedyExamples.{row_volume, merge_of}
+
+-- four regions of two voxels each, whose contacts have the means 100, 90 and 100
+abbrev pub four_pairs : Grid
+four_pairs = row_volume (200 ∷ 100 ∷ 200 ∷ 90 ∷ 200 ∷ 100 ∷ 200 ∷ [])
+
+abbrev pub pair_labels : List ℕ
+pair_labels = 1 ∷ 1 ∷ 3 ∷ 3 ∷ 5 ∷ 5 ∷ 7 ∷ 7 ∷ []
+
+-- a leaf of six voxels, node 0, and one of two, node 1; node 2 is the root
+abbrev pub cut_pairs : Chunking
+cut_pairs = cut_row 8 6
+
+-- the labels after the work of node 0, and after that of the root
+abbrev pub pairs_after_leaves : List ℕ
+pairs_after_leaves = 1 ∷ 1 ∷ 1 ∷ 1 ∷ 5 ∷ 5 ∷ 7 ∷ 7 ∷ []
+
+abbrev pub pairs_after_root : List ℕ
+pairs_after_root = 1 ∷ 1 ∷ 1 ∷ 1 ∷ 5 ∷ 5 ∷ 5 ∷ 5 ∷ []
+
+-- the works at the threshold 100: a merge in the first leaf, none in the second, and one in the root
+abbrev pub pair_works : List (List Merge)
+pair_works = (merge_of 1 3 100 1 6 ∷ []) ∷ [] ∷ (merge_of 5 7 100 1 18 ∷ []) ∷ []
+
+-- three voxels in a row
+abbrev pub three_voxels : Axes
+three_voxels = record { nx = 3; ny = 1; nz = 1 }

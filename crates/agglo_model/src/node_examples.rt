@@ -1,0 +1,49 @@
+//! Worked examples of the nodes of a cut volume. Each function has no body: its contract is the claim,
+//! and the proof computes it.
+#![tactic(auto, unfolding(crate::specs::Cutting::cells_on, crate::specs::Cutting::last_level, crate::specs::Cutting::level_of))]
+
+ghost use Rattle.std.specs.Prelude.{◌≡◌, ◌∷◌, [], true, false};
+ghost use Rattle.agglo_model.specs.Connected.{AreConnected};
+ghost use Rattle.agglo_model.specs.Freezing.{IsFrozen, occurs_in, touched_faces};
+ghost use Rattle.agglo_model.specs.Greedy.{IsMutual};
+ghost use Rattle.agglo_model.specs.GreedyExamples.{mean_of};
+ghost use Rattle.agglo_model.specs.NodeExamples.{cut_pairs, four_pairs, pair_labels, pair_works, pairs_after_leaves, pairs_after_root, three_voxels};
+ghost use Rattle.agglo_model.specs.Work.{AreWorks, IsPassed, IsReciprocal, labels_after};
+
+/// A name is frozen where it touches the face between the two leaves; in the root there is none.
+pub fn names_at_a_face()
+    ensures first { (touched_faces cut_pairs 0 pair_labels 5 ≡ 2) × (touched_faces cut_pairs 0 pair_labels 3 ≡ 0) × (touched_faces cut_pairs 0 pair_labels 1 ≡ 0) }
+    ensures second { touched_faces cut_pairs 1 pair_labels 7 ≡ 1 }
+    ensures whole { (touched_faces cut_pairs 2 pair_labels 5 ≡ 0) × (touched_faces cut_pairs 2 pair_labels 7 ≡ 0) }
+    ensures occur { (occurs_in cut_pairs 0 pair_labels 5 ≡ true) × (occurs_in cut_pairs 0 pair_labels 7 ≡ false) }
+    ensures frozen { IsFrozen cut_pairs 0 pair_labels 5 }
+    ensures free { ¬ (IsFrozen cut_pairs 0 pair_labels 3) }
+{}
+
+/// A pair that is reciprocal in the volume is none of a leaf in which its names are frozen or missing.
+pub fn frozen_pair_waits()
+    ensures mutual { IsMutual four_pairs (mean_of 100 1) pairs_after_leaves 5 7 }
+    ensures first { ¬ (IsReciprocal four_pairs (mean_of 100 1) cut_pairs 0 pairs_after_leaves 5 7) }
+    ensures second { ¬ (IsReciprocal four_pairs (mean_of 100 1) cut_pairs 1 pairs_after_leaves 5 7) }
+    ensures root { IsReciprocal four_pairs (mean_of 100 1) cut_pairs 2 pairs_after_leaves 5 7 }
+{}
+
+/// The works of the three nodes at the threshold 100, and the labels that they leave.
+pub fn works_of_three_nodes()
+    ensures works { AreWorks four_pairs (mean_of 100 1) cut_pairs pair_labels pair_works }
+    ensures leaves { labels_after pair_labels pair_works 1 ≡ pairs_after_leaves }
+    ensures last { labels_after pair_labels pair_works 2 ≡ pairs_after_root }
+{}
+
+/// After the work of the first leaf the name 1 has a contact of mean 90 alone and is dropped, while 5 is
+/// passed to the root, since it is frozen.
+pub fn dropped_and_passed()
+    ensures dropped { ¬ (IsPassed four_pairs (mean_of 100 1) cut_pairs 0 pairs_after_leaves 1) }
+    ensures passed { IsPassed four_pairs (mean_of 100 1) cut_pairs 0 pairs_after_leaves 5 }
+    ensures lower { IsPassed four_pairs (mean_of 90 1) cut_pairs 0 pairs_after_leaves 1 }
+{}
+
+/// A name in two parts is not connected.
+pub fn name_in_two_parts()
+    ensures { ¬ (AreConnected three_voxels (1 ∷ 2 ∷ 1 ∷ [])) }
+{}
