@@ -6,7 +6,7 @@ use Rattle.agglo_model.specs.Grid.{Grid}
 use Rattle.agglo_model.specs.PairOrder.{Threshold}
 use Rattle.agglo_model.specs.Greedy.{Merge, after_merge, after_merges}
 use Rattle.agglo_model.specs.Connected.{AreConnected}
-use Rattle.agglo_model.specs.Cutting.{Chunking, node_count}
+use Rattle.agglo_model.specs.Cutting.{Chunking}
 use Rattle.agglo_model.specs.Work.{IsNodeStep, IsWork, all_merges, work_of, labels_before, labels_after}
 use Rattle.agglo_model.specs.NodeLaws.{AreWorksOn, IsDropped, DroppedNamesStay}
 use Rattle.agglo_model.proofs.ConnectedWorks.{connected_after_step}
@@ -27,35 +27,33 @@ work_each P R g t c m keep each labels (step ∷ steps) connected work holds (su
     k d (omega arith)
 
 module _ (g : Grid) (t : Threshold) (c : Chunking) (labels : List ℕ) (works : List (List Merge)) (on : AreWorksOn g t c labels works)
-    (m x : ℕ) (node : m < node_count c) (stuck : IsStuck g t x (labels_after labels works m)) where
-  stuck_at : (n : ℕ) → m < n → n ≤ node_count c → IsStuck g t x (labels_before labels works n)
+    (m x : ℕ) (node : m < length works) (stuck : IsStuck g t x (labels_after labels works m)) where
+  stuck_at : (n : ℕ) → m < n → n ≤ length works → IsStuck g t x (labels_before labels works n)
   stuck_at n after le = works_keep g t c labels works on (IsStuck g t x) (m + 1) n (omega arith) le
       (λ k low high. steps_keep_stuck g t c k x) stuck
 
   -- past the last node the labels stay
-  past_last : (n : ℕ) → node_count c ≤ n
-      → labels_before labels works (node_count c) ≡ labels_before labels works n
+  past_last : (n : ℕ) → length works ≤ n
+      → labels_before labels works (length works) ≡ labels_before labels works n
   past_last n past =
-      let len = on.works_are.one_each in
       ap (λ w. after_merges labels (all_merges w))
-      (take_all (node_count c) works (omega arith) ∙ sym (take_all n works (omega arith)))
+      (take_all (length works) works (omega arith) ∙ sym (take_all n works (omega arith)))
 
   stuck_later : (n : ℕ) → m < n → IsStuck g t x (labels_before labels works n)
-  stuck_later n after = elim (cases_lt n (node_count c)) [
+  stuck_later n after = elim (cases_lt n (length works)) [
     | inl less ↦ stuck_at n after (omega arith)
-    | inr past ↦ subst (IsStuck g t x) (past_last n past) (stuck_at (node_count c) node (omega arith))
+    | inr past ↦ subst (IsStuck g t x) (past_last n past) (stuck_at (length works) node (omega arith))
   ]
 
   merge_later : (n : ℕ) (merge : Merge) → m < n → Contains (work_of works n) merge
       → (merge.survivor ≢ x) × (merge.absorbed ≢ x)
-  merge_later n merge after (k, below, is) = elim (cases_lt n (node_count c)) [
+  merge_later n merge after (k, below, is) = elim (cases_lt n (length works)) [
     | inl less ↦ subst (λ s. (s.survivor ≢ x) × (s.absorbed ≢ x)) is
         (work_each (IsStuck g t x) (λ s. (s.survivor ≢ x) × (s.absorbed ≢ x)) g t c n (steps_keep_stuck g t c n x)
         (λ l step here at. merge_apart g t c n x l step here at)
         (labels_before labels works n) (work_of works n) (connected_before g t c labels works on n (omega arith))
         (work_at g t c labels works on.works_are n less) (stuck_at n after (omega arith)) k merge below)
     | inr past ↦
-        let len = on.works_are.one_each in
         let none : length (work_of works n) ≡ 0 = ap length (get_or_past works n [] (omega arith)) in
         absurd (omega arith)
   ]

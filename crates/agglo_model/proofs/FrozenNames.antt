@@ -114,7 +114,9 @@ not_frozen_later c h j m le node labels x lies frozen =
     (inner_face c h j m v (omega arith) (level_of_le c j m le node) (lies.inside v name) frozen.at_face)
 
 pub frozen_names_are_whole : FrozenNamesAreWhole
-frozen_names_are_whole g t c labels works on m node x frozen =
+frozen_names_are_whole g t c labels works on m worked x frozen =
+    let few = on.works_are.few in
+    let node : m < node_count c = omega arith in
     let all = works_keep g t c labels works on (AreWholeOrInside c m labels) 0 (m + 1) (omega arith) (omega arith)
     (λ n low high. step_whole_or_inside g t c on.cutting on.axes labels m n (omega arith) (omega arith))
     (λ y. inl (λ v. ((λ is. is), (λ is. is)))) in

@@ -1,5 +1,5 @@
 -- The labels of a cell wait for the work of the node's parent: a node changes labels in its own cell only.
-use Rattle.std.proofs.Common.{◌≡◌, ◌≢◌, ℕ, suc, ◌+◌, ◌<◌, ◌≤◌, true, List, refl, sym, ◌∙◌, subst, arith}
+use Rattle.std.proofs.Common.{◌≡◌, ◌≢◌, ℕ, suc, ◌+◌, ◌<◌, ◌≤◌, true, List, length, refl, sym, ◌∙◌, subst, arith}
 use Rattle.std.proofs.lemmas.Bool.Decides.{nat_tests}
 use Rattle.agglo_model.specs.Basins.{label_of}
 use Rattle.agglo_model.specs.Grid.{Grid}
@@ -35,10 +35,11 @@ step_outside g t c h axes m node labels step connected here v out =
 
 -- so a voxel keeps its label through the works of nodes that don't hold it
 pub label_waits : (g : Grid) (t : Threshold) (c : Chunking) (labels : List ℕ) (works : List (List Merge))
-    → AreWorksOn g t c labels works → (from to v : ℕ) → from ≤ to → to ≤ node_count c
+    → AreWorksOn g t c labels works → (from to v : ℕ) → from ≤ to → to ≤ length works
     → ((m : ℕ) → from ≤ m → m < to → ¬ (is_held c m v ≡ true))
     → label_of (labels_before labels works to) v ≡ label_of (labels_before labels works from) v
 label_waits g t c labels works on from to v order le out =
+    let few = on.works_are.few in
     works_keep g t c labels works on
     (λ l. label_of l v ≡ label_of (labels_before labels works from) v) from to order le
     (λ m low high l step connected here was.
@@ -46,7 +47,7 @@ label_waits g t c labels works on from to v order le out =
     refl
 
 pub cells_wait : CellsWait
-cells_wait g t c labels works on m p node is v held =
+cells_wait g t c labels works on m p worked node is v held =
     let parent = parent_is c m p is in
     let greater = parent_greater c on.cutting m p node parent in
     let below = parent_below c on.cutting m p node parent in
@@ -58,8 +59,8 @@ leaf_below : (c : Chunking) (m : ℕ) → m < cells_at c 0 → m < node_count c
 leaf_below c m below = omega (arith, first_node_le c 1 (suc (last_level c)) (omega arith))
 
 pub leaves_start_fresh : LeavesStartFresh
-leaves_start_fresh g t c labels works on m leaf v held =
-    label_waits g t c labels works on 0 m v (omega arith) (omega (arith, leaf_below c m leaf))
+leaves_start_fresh g t c labels works on m worked leaf v held =
+    label_waits g t c labels works on 0 m v (omega arith) worked
     (λ n low high in_n.
     let level : level_of c n ≡ level_of c m = leaf_level c n (omega arith) ∙ sym (leaf_level c m leaf) in
     let one = one_of_level c n m v level in_n held in

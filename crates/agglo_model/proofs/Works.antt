@@ -7,8 +7,8 @@ use Rattle.agglo_model.specs.Grid.{Grid}
 use Rattle.agglo_model.specs.PairOrder.{Threshold}
 use Rattle.agglo_model.specs.Greedy.{Merge, after_merge, after_merges}
 use Rattle.agglo_model.specs.Connected.{AreConnected}
-use Rattle.agglo_model.specs.Cutting.{Chunking, node_count}
-use Rattle.agglo_model.specs.Work.{IsNodeStep, IsWork, AreWorksFrom, AreWorks, all_merges, work_of, labels_before, labels_after}
+use Rattle.agglo_model.specs.Cutting.{Chunking}
+use Rattle.agglo_model.specs.Work.{IsNodeStep, IsWork, AreWorksFrom, AreFirstWorks, all_merges, work_of, labels_before, labels_after}
 use Rattle.agglo_model.specs.NodeLaws.{AreWorksOn}
 use Rattle.agglo_model.proofs.ConnectedWorks.{connected_after_step, connected_after}
 
@@ -45,12 +45,12 @@ work_from g t c n labels (work ∷ works) (suc m) are below =
     (subst (λ l. IsWork g t c (suc n + m) l (work_of works m)) from later)
 
 pub work_at : (g : Grid) (t : Threshold) (c : Chunking) (labels : List ℕ) (works : List (List Merge))
-    → AreWorks g t c labels works → (m : ℕ) → m < node_count c
+    → AreFirstWorks g t c labels works → (m : ℕ) → m < length works
     → IsWork g t c m (labels_before labels works m) (work_of works m)
 work_at g t c labels works are m below =
     let here : 0 + m ≡ m = omega arith in
     subst (λ k. IsWork g t c k (labels_before labels works m) (work_of works m)) here
-    (work_from g t c 0 labels works m are.worked (subst (λ n. m < n) (sym are.one_each) below))
+    (work_from g t c 0 labels works m are.worked below)
 
 -- ---- what the steps keep
 
@@ -68,15 +68,12 @@ work_keeps P g t c m keep labels (step ∷ steps) connected work holds =
     (connected_after_step g t c m labels step work.0 connected) work.1 (keep labels step connected work.0 holds)
 
 module _ (g : Grid) (t : Threshold) (c : Chunking) (labels : List ℕ) (works : List (List Merge)) (on : AreWorksOn g t c labels works) where
-  pub length-works : length works ≡ node_count c
-  length-works = on.works_are.one_each
-
-  pub after-is : (m : ℕ) → m < node_count c
+  pub after-is : (m : ℕ) → m < length works
       → labels_after labels works m ≡ after_merges (labels_before labels works m) (work_of works m)
-  after-is m below = labels_after-is labels works m (subst (λ n. m < n) (sym on.works_are.one_each) below)
+  after-is m below = labels_after-is labels works m below
 
   -- names are connected before each work
-  pub connected_before : (m : ℕ) → m ≤ node_count c → AreConnected g.axes (labels_before labels works m)
+  pub connected_before : (m : ℕ) → m ≤ length works → AreConnected g.axes (labels_before labels works m)
   connected_before zero le = on.connected
   connected_before (suc m) le =
       let next = connected_after g t c m (labels_before labels works m) (work_of works m)
@@ -85,7 +82,7 @@ module _ (g : Grid) (t : Threshold) (c : Chunking) (labels : List ℕ) (works : 
       (subst (AreConnected g.axes) (sym (after-is m (omega arith))) next)
 
   -- a property that the works of a range of nodes keep
-  pub works_keep : (P : List ℕ → Type 0) (from to : ℕ) → from ≤ to → to ≤ node_count c
+  pub works_keep : (P : List ℕ → Type 0) (from to : ℕ) → from ≤ to → to ≤ length works
       → ((m : ℕ) → from ≤ m → m < to → StepsKeep P g t c m)
       → P (labels_before labels works from) → P (labels_before labels works to)
   works_keep P from zero order le keep holds =

@@ -8,7 +8,7 @@ use Rattle.agglo_model.specs.Basins.{label_of}
 use Rattle.agglo_model.specs.Grid.{Grid}
 use Rattle.agglo_model.specs.PairOrder.{Threshold}
 use Rattle.agglo_model.specs.Greedy.{Merge, IsMutual, IsMutualRun, after_merge, after_merges}
-use Rattle.agglo_model.specs.Cutting.{Chunking, IsChunking, node_count, root}
+use Rattle.agglo_model.specs.Cutting.{Chunking, IsChunking, root}
 use Rattle.agglo_model.specs.Work.{IsFree, IsReciprocal, IsWork, AreWorksFrom, all_merges, work_of, labels_before, labels_after}
 use Rattle.agglo_model.specs.NodeLaws.{WorksAreRun}
 use Rattle.agglo_model.proofs.Paths.{neighbours_swap}
@@ -68,17 +68,16 @@ reciprocal_in_root g t c h axes labels a b pair =
     }
 
 pub works_are_run : WorksAreRun
-works_are_run g t c labels works on =
+works_are_run g t c labels works on len =
     let h = on.cutting in
     let last = labels_after labels works (root c) in
-    let len : length works ≡ node_count c = on.works_are.one_each in
-    let node : root c < node_count c = omega (arith, root_last c h) in
+    let worked : root c < length works = omega (arith, root_last c h) in
     let at_end : after_merges labels (all_merges works) ≡ last =
     ap (λ w. after_merges labels (all_merges w)) (sym (take_all (root c + 1) works (omega (arith, root_last c h)))) in
-    let is_last = after-is g t c labels works on (root c) node in
+    let is_last = after-is g t c labels works on (root c) worked in
     let none : (a b : ℕ) → ¬ (IsMutual g t last a b) = λ a b pair.
     work_ends g t c (root c) (labels_before labels works (root c)) (work_of works (root c))
-    (work_at g t c labels works on.works_are (root c) node) a b
+    (work_at g t c labels works on.works_are (root c) worked) a b
     (subst (λ l. IsReciprocal g t c (root c) l a b) is_last
     (reciprocal_in_root g t c h on.axes last a b pair)) in
     works_then g t c 0 labels last works on.works_are.worked at_end none

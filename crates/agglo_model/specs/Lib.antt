@@ -31,3 +31,5 @@ pub mod Settling
 pub mod NodeLaws
 pub mod Segmentation
 pub mod NodeExamples
+pub mod Joining
+pub mod JoiningLaws

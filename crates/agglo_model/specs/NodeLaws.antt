@@ -1,6 +1,6 @@
 -- Why work on chunks gives the answer of the whole volume: what holds of connected labels, of frozen names,
 -- and of the works of all nodes.
-use Rattle.std.specs.Prelude.{◌≡◌, ◌≢◌, ℕ, ◌<◌, ◌↔◌, true, IsTrue, List, Some, Contains}
+use Rattle.std.specs.Prelude.{◌≡◌, ◌≢◌, ℕ, ◌<◌, ◌≤◌, ◌↔◌, true, IsTrue, List, length, Some, Contains}
 use Rattle.agglo_model.specs.Axes.{voxel_count}
 use Rattle.agglo_model.specs.Cell.{IsInBox}
 use Rattle.agglo_model.specs.Grid.{Grid}
@@ -12,7 +12,7 @@ use Rattle.agglo_model.specs.MergeLaws.{SameOutcome}
 use Rattle.agglo_model.specs.Connected.{AreConnected}
 use Rattle.agglo_model.specs.Cutting.{Chunking, IsChunking, node_count, cells_at, parent, low_corner, high_corner}
 use Rattle.agglo_model.specs.Freezing.{is_held, is_inside, occurs_in, IsFrozen}
-use Rattle.agglo_model.specs.Work.{IsFree, IsWork, IsOrderedWork, AreWorks, work_of, labels_before, labels_after, IsPassed, IsFirstPartner, all_merges}
+use Rattle.agglo_model.specs.Work.{IsFree, IsWork, IsOrderedWork, AreFirstWorks, work_of, labels_before, labels_after, IsPassed, IsFirstPartner, all_merges}
 
 -- the cell of a node, as a box
 abbrev pub CellsAreBoxes : Type 0
@@ -47,29 +47,29 @@ abbrev pub OrderedWorkIsWork : Type 0
 OrderedWorkIsWork = (g : Grid) (t : Threshold) (c : Chunking) (m : ℕ) (labels : List ℕ) (work : List Merge)
     → IsOrderedWork g t c m labels work → IsWork g t c m labels work
 
--- what the laws below are about: all works on a connected list of labels
+-- what the laws below are about: works of the first nodes on a connected list of labels
 pub record AreWorksOn (g : Grid) (t : Threshold) (c : Chunking) (labels : List ℕ) (works : List (List Merge)) : Type 0 where
   pub cutting : IsChunking c
   pub axes : c.axes ≡ g.axes
   pub connected : AreConnected g.axes labels
-  pub works_are : AreWorks g t c labels works
+  pub works_are : AreFirstWorks g t c labels works
 
 -- a name that is frozen in a node after its work has the voxels that it had at the start
 abbrev pub FrozenNamesAreWhole : Type 0
 FrozenNamesAreWhole = (g : Grid) (t : Threshold) (c : Chunking) (labels : List ℕ) (works : List (List Merge))
-    → AreWorksOn g t c labels works → (m : ℕ) → m < node_count c → (x : ℕ) → IsFrozen c m (labels_after labels works m) x
+    → AreWorksOn g t c labels works → (m : ℕ) → m < length works → (x : ℕ) → IsFrozen c m (labels_after labels works m) x
     → (v : ℕ) → (label_of (labels_after labels works m) v ≡ x) ↔ (label_of labels v ≡ x)
 
 -- no work between that of a node and that of its parent changes a label in the node's cell
 abbrev pub CellsWait : Type 0
 CellsWait = (g : Grid) (t : Threshold) (c : Chunking) (labels : List ℕ) (works : List (List Merge))
-    → AreWorksOn g t c labels works → (m p : ℕ) → m < node_count c → parent c m ≡ Some p
+    → AreWorksOn g t c labels works → (m p : ℕ) → p ≤ length works → m < node_count c → parent c m ≡ Some p
     → (v : ℕ) → is_held c m v ≡ true → label_of (labels_before labels works p) v ≡ label_of (labels_after labels works m) v
 
 -- before the work of a leaf, the labels in its cell are those from the start
 abbrev pub LeavesStartFresh : Type 0
 LeavesStartFresh = (g : Grid) (t : Threshold) (c : Chunking) (labels : List ℕ) (works : List (List Merge))
-    → AreWorksOn g t c labels works → (m : ℕ) → m < cells_at c 0
+    → AreWorksOn g t c labels works → (m : ℕ) → m ≤ length works → m < cells_at c 0
     → (v : ℕ) → is_held c m v ≡ true → label_of (labels_before labels works m) v ≡ label_of labels v
 
 -- a name of a cell that isn't passed is in no later merge, and never the first partner in a pair that reaches
@@ -81,11 +81,11 @@ pub record IsDropped (g : Grid) (t : Threshold) (labels : List ℕ) (works : Lis
 
 abbrev pub DroppedNamesStay : Type 0
 DroppedNamesStay = (g : Grid) (t : Threshold) (c : Chunking) (labels : List ℕ) (works : List (List Merge))
-    → AreWorksOn g t c labels works → (m x : ℕ) → m < node_count c → x ≢ 0
+    → AreWorksOn g t c labels works → (m x : ℕ) → m < length works → x ≢ 0
     → IsTrue (occurs_in c m (labels_after labels works m) x)
     → ¬ (IsPassed g t c m (labels_after labels works m) x) → IsDropped g t labels works m x
 
 -- the works of all nodes, one after another, are a run of reciprocal merges of the whole volume
 abbrev pub WorksAreRun : Type 0
 WorksAreRun = (g : Grid) (t : Threshold) (c : Chunking) (labels : List ℕ) (works : List (List Merge))
-    → AreWorksOn g t c labels works → IsMutualRun g t labels (all_merges works)
+    → AreWorksOn g t c labels works → length works ≡ node_count c → IsMutualRun g t labels (all_merges works)

@@ -1,5 +1,5 @@
 -- Region graphs: the names in a cell and their contacts there.
-use Rattle.std.specs.Prelude.{◌≡◌, ◌≢◌, ℕ, ◌<◌, ◌≤◌, ◌⊎◌, ◌↔◌, Bool, ◌&&◌, IsTrue, List, map, filter, fold, sum_by, Contains, AllPairs}
+use Rattle.std.specs.Prelude.{◌≡◌, ◌≢◌, ℕ, ◌<◌, ◌≤◌, ◌⊎◌, ◌↔◌, Bool, ◌&&◌, IsTrue, List, map, filter, fold, sum_by, Contains, AllPairs, [], slice_index_or}
 use Rattle.agglo_model.specs.Grid.{Grid}
 use Rattle.agglo_model.specs.PairOrder.{Contact, Threshold, added, most_edges}
 use Rattle.agglo_model.specs.Contacts.{are, joins, total}
@@ -84,3 +84,7 @@ IsCellGraph g c m labels graph = IsGraphOfNames (λ _. Unit {0}) g c m labels gr
 -- the residue of node m: the graph of the names that it passes to its parent
 abbrev pub IsResidue : Grid → Threshold → Chunking → ℕ → List ℕ → RegionGraph → Type 0
 IsResidue g t c m labels graph = IsGraphOfNames (IsPassed g t c m labels) g c m labels graph
+
+-- one graph of a list of them
+abbrev pub residue_of : List RegionGraph → ℕ → RegionGraph
+residue_of residues m = slice_index_or residues m (record { regions = []; edges = [] })

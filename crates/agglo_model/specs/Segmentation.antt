@@ -1,6 +1,6 @@
 -- The answer of a segmentation: the labels and merges of greedy agglomeration from the basins, and what the
 -- report counts for each level of chunks.
-use Rattle.std.specs.Prelude.{◌≡◌, ℕ, ◌+◌, ◌<◌, ◌≤◌, List, [], length, sum_by, slice_index_or}
+use Rattle.std.specs.Prelude.{◌≡◌, ℕ, ◌+◌, ◌<◌, ◌≤◌, List, length, sum_by, slice_index_or}
 use Rattle.std.specs.List.{range_with_len}
 use Rattle.agglo_model.specs.Grid.{Grid}
 use Rattle.agglo_model.specs.Basins.{AreBasins, names}
@@ -8,12 +8,8 @@ use Rattle.agglo_model.specs.PairOrder.{Threshold}
 use Rattle.agglo_model.specs.Greedy.{Merge, IsGreedyRun, after_merges}
 use Rattle.agglo_model.specs.Cutting.{Chunking, cells_at, first_node, last_level, node_count}
 use Rattle.agglo_model.specs.Work.{AreWorks, work_of, labels_after}
-use Rattle.agglo_model.specs.RegionGraph.{RegionGraph, IsResidue}
+use Rattle.agglo_model.specs.RegionGraph.{RegionGraph, IsResidue, residue_of}
 use Rattle.agglo_model.specs.Report.{Level}
-
--- what a node passes on, in a list with an entry for each node
-abbrev pub residue_of : List RegionGraph → ℕ → RegionGraph
-residue_of residues m = slice_index_or residues m (record { regions = []; edges = [] })
 
 -- the residues of all nodes, each as it is after the node's work
 pub record AreResidues (g : Grid) (t : Threshold) (c : Chunking) (labels : List ℕ) (works : List (List Merge)) (residues : List RegionGraph) : Type 0 where

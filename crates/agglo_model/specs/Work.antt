@@ -1,5 +1,5 @@
 -- What the nodes of a cut volume do: each merges the reciprocal pairs that it may decide on.
-use Rattle.std.specs.Prelude.{◌≡◌, ◌≢◌, ℕ, suc, ◌+◌, ◌⊎◌, IsTrue, List, [], ◌∷◌, length, take, slice_index_or}
+use Rattle.std.specs.Prelude.{◌≡◌, ◌≢◌, ℕ, suc, ◌+◌, ◌≤◌, ◌⊎◌, IsTrue, List, [], ◌∷◌, length, take, slice_index_or}
 use Rattle.std.specs.List.{flat_map}
 use Rattle.agglo_model.specs.Grid.{Grid}
 use Rattle.agglo_model.specs.PairOrder.{Threshold, Before, Reaches}
@@ -63,7 +63,12 @@ labels_before labels works m = after_merges labels (all_merges (take m works))
 abbrev pub labels_after : List ℕ → List (List Merge) → ℕ → List ℕ
 labels_after labels works m = labels_before labels works (m + 1)
 
--- the works of all nodes in ascending number, from these labels on
+-- the works of the first nodes in ascending number, from these labels on, as far as they were done
+pub record AreFirstWorks (g : Grid) (t : Threshold) (c : Chunking) (labels : List ℕ) (works : List (List Merge)) : Type 0 where
+  pub few : length works ≤ node_count c
+  pub worked : AreWorksFrom g t c 0 labels works
+
+-- the works of all nodes
 pub record AreWorks (g : Grid) (t : Threshold) (c : Chunking) (labels : List ℕ) (works : List (List Merge)) : Type 0 where
   pub one_each : length works ≡ node_count c
   pub worked : AreWorksFrom g t c 0 labels works
