@@ -10,7 +10,6 @@ pub mod MeanLaws
 pub mod VolumeFile
 pub mod LabelFile
 pub mod MergeTree
-pub mod TreeFile
 pub mod MergeLaws
 pub mod Note
 pub mod Report
@@ -24,3 +23,5 @@ pub mod LabelMap
 pub mod Laws
 pub mod Examples
 pub mod Numbers
+pub mod TreeFile
+pub mod TreeExamples

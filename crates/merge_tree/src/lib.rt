@@ -7,14 +7,23 @@
 
 mod label_file;
 mod merge;
+mod numbers;
 mod order;
 mod renaming;
+#[cfg(test)]
+mod tests;
 mod tree;
+mod tree_fault;
 mod tree_file;
+mod tree_input;
+mod tree_reading;
+mod tree_records;
 
 pub use label_file::put_labels;
 pub use merge::Merge;
 pub use order::in_order;
 pub use renaming::apply;
 pub use tree::Tree;
+pub use tree_fault::TreeFault;
 pub use tree_file::put_tree;
+pub use tree_reading::read_tree;
