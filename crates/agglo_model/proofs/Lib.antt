@@ -23,3 +23,5 @@ pub mod FirstExists
 pub mod SortedMerges
 pub mod LawfulMerges
 pub mod Digits
+pub mod RecordFlaws
+pub mod SoundTrees

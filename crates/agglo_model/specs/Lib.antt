@@ -25,3 +25,4 @@ pub mod Examples
 pub mod Numbers
 pub mod TreeFile
 pub mod TreeExamples
+pub mod TreeLaws

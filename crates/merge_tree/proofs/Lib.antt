@@ -2,3 +2,4 @@ mod Blocks
 mod Reordered
 mod Ranks
 mod FinalNames
+mod Records

@@ -58,9 +58,9 @@ pub fn lawful_merges(alloc: Global, head: &Head, body: &[u8]) -> Result<Vec<Merg
 {
     let mut absorbed = Vec::from_elem(alloc, false, head.dims.voxels() as usize + 1)?;
     let mut merges = Vec::with_capacity(alloc, head.merges as usize)?;
-    for i in 0..head.merges as usize {
-        let raw = record_at(body, RECORD_LENGTH * i);
-        let merge = judge(head, &absorbed, &merges, raw)?;
+    for i in 0..head.merges {
+        let raw = record_at(body, RECORD_LENGTH * i as usize);
+        let merge = judge(head, &absorbed, &merges, i, raw)?;
         absorbed[raw.absorbed as usize] = true;
         merges.push(merge).map_err(AllocError::from)?;
     }
@@ -81,21 +81,21 @@ fn record_at(body: &[u8], at: usize) -> RawMerge
     }
 }
 
-/// The merge of a record that comes after these merges, or the first flaw of it. The names that they
-/// absorbed are marked.
+/// The merge of record number `i`, which comes after these merges, or the first flaw of it. The names
+/// that they absorbed are marked.
 fn judge(
     head: &Head,
     absorbed: &[bool],
     earlier: &[Merge],
+    i: u32,
     raw: RawMerge,
 ) -> Result<Merge, TreeFault>
     requires marked { AreMarked (voxel_count head.now.dims) earlier.now absorbed.now }
-    requires few { length earlier.now < head.now.merges }
+    requires number { i ≡ length earlier.now }
     ensures { MatchResult result
         (λ merge. (record_flaw head.now.dims head.now.threshold earlier.now raw ≡ None) × (merge ≡ raw))
         (λ fault. Tells fault (record_flaw head.now.dims head.now.threshold earlier.now raw)) }
 {
-    let i = earlier.len() as u32;
     if !can_merge(&head.dims, absorbed, raw) {
         return Err(TreeFault::Names(i));
     }

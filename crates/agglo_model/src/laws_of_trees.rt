@@ -1,0 +1,8 @@
+//! Laws over tree files, each a function that does nothing and whose contract is the law.
+ghost use Rattle.agglo_model.specs.TreeLaws.{SoundFilesHoldTrees};
+
+/// What bytes without a flaw hold is a merge tree: its axes are within the limits, and its merges are
+/// lawful.
+pub fn sound_files_hold_trees()
+    ensures { SoundFilesHoldTrees }
+{}
