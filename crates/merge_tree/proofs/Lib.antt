@@ -3,3 +3,4 @@ mod Reordered
 mod Ranks
 mod FinalNames
 mod Records
+mod Judged

@@ -5,7 +5,7 @@ ghost use Rattle.merge_tree.specs.TreeFault.{told};
 
 use seg_base::DimFault;
 use seg_io::Failed;
-use std::alloc::AllocError;
+use std::alloc::{AllocError, AllocFailed};
 use thiserror::Error;
 
 /// Why no tree was read: the first that holds, in this order. The last four that name a record tell
@@ -80,6 +80,14 @@ impl From<AllocError> for TreeFault {
     ghost from_gives = { λ _ made. made ≡ WantOfMemory };
 
     fn from(_error: AllocError) -> TreeFault {
+        TreeFault::Memory
+    }
+}
+
+impl<T: Drop> From<AllocFailed<T>> for TreeFault {
+    ghost from_gives = { λ _ made. made ≡ WantOfMemory };
+
+    fn from(_error: AllocFailed<T>) -> TreeFault {
         TreeFault::Memory
     }
 }

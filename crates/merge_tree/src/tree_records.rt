@@ -10,7 +10,7 @@ use crate::numbers::{long_at, short_at};
 use crate::tree_fault::TreeFault;
 use mean_fraction::{Contact, Threshold, rank};
 use seg_base::Dims;
-use std::alloc::{AllocError, Global};
+use std::alloc::Global;
 use std::cmp::Ordering;
 use std::marker::Model;
 
@@ -62,7 +62,7 @@ pub fn lawful_merges(alloc: Global, head: &Head, body: &[u8]) -> Result<Vec<Merg
         let raw = record_at(body, RECORD_LENGTH * i as usize);
         let merge = judge(head, &absorbed, &merges, i, raw)?;
         absorbed[raw.absorbed as usize] = true;
-        merges.push(merge).map_err(AllocError::from)?;
+        merges.push(merge)?;
     }
     Ok(merges)
 }
