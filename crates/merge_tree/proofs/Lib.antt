@@ -4,3 +4,5 @@ mod Ranks
 mod FinalNames
 mod Records
 mod Judged
+mod InputStates
+mod InputPieces
