@@ -23,5 +23,7 @@ pub mod FirstExists
 pub mod SortedMerges
 pub mod LawfulMerges
 pub mod Digits
+pub mod HeaderFlaws
+pub mod TreeBodies
 pub mod RecordFlaws
 pub mod SoundTrees

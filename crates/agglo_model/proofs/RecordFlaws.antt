@@ -1,6 +1,5 @@
 -- The tests of one record of a tree file: what they mean, and what flaw follows from them.
 use Rattle.std.proofs.Common.{◌≡◌, ◌≢◌, ℕ, ◌+◌, ◌-◌, ◌*◌, ◌<◌, ◌≤◌, ◌==◌, ◌||◌, ◌⊎◌, nat_lt, nat_le, Bool, true, false, not, ◌&&◌, if◌then◌else◌, List, length, get_or, Option, Some, None, refl, sym, ap, ◌∙◌, subst, arith, inl, inr}
-use Rattle.std.specs.List.{list_all}
 use Rattle.std.proofs.lemmas.Bool.Decides.{nat_tests}
 use Rattle.std.proofs.lemmas.List.{get_or_default}
 use Rattle.std.proofs.lemmas.List.Sums.{AllPass-from_list_all, list_all-from_AllPass}
@@ -109,24 +108,24 @@ names_pass axes earlier m names keeps =
     whole m.survivor m.absorbed (voxel_count axes) (is_alive earlier m.survivor) (is_alive earlier m.absorbed) names.named names.ordered names.in_range
     (alive_where earlier m.survivor (λ k d below. (keeps k d below).survivor)) (alive_where earlier m.absorbed (λ k d below. (keeps k d below).absorbed))
   where
-  whole : (s a n : ℕ) (alive_s alive_a : Bool) → 0 < s → s < a → a ≤ n → alive_s ≡ true → alive_a ≡ true
-      → (nat_lt 0 s && (nat_lt s a && (nat_le a n && (alive_s && alive_a)))) ≡ true
-  whole s a n alive_s alive_a p q r u v = grind (arith, nat_tests)
+    whole : (s a n : ℕ) (alive_s alive_a : Bool) → 0 < s → s < a → a ≤ n → alive_s ≡ true → alive_a ≡ true
+        → (nat_lt 0 s && (nat_lt s a && (nat_le a n && (alive_s && alive_a)))) ≡ true
+    whole s a n alive_s alive_a p q r u v = grind (arith, nat_tests)
 
 -- the test of numbers
 pub numbers_mean : (axes : Axes) (c : Contact) → has_numbers axes c ≡ true → HasNumbers axes c
 numbers_mean axes c h = let parts = split c.sum c.count c.tie (edge_count axes) h in record { some = parts.0; few = parts.1; bytes = parts.2; edge = parts.3 }
   where
-  split : (s n t edges : ℕ) → (nat_lt 0 n && (nat_le n edges && (nat_le s (255 * n) && nat_lt t edges))) ≡ true
-      → (0 < n) × (n ≤ edges) × (s ≤ 255 * n) × (t < edges)
-  split s n t edges h = (grind (arith, nat_tests), grind (arith, nat_tests), grind (arith, nat_tests), grind (arith, nat_tests))
+    split : (s n t edges : ℕ) → (nat_lt 0 n && (nat_le n edges && (nat_le s (255 * n) && nat_lt t edges))) ≡ true
+        → (0 < n) × (n ≤ edges) × (s ≤ 255 * n) × (t < edges)
+    split s n t edges h = (grind (arith, nat_tests), grind (arith, nat_tests), grind (arith, nat_tests), grind (arith, nat_tests))
 
 pub numbers_pass : (axes : Axes) (c : Contact) → HasNumbers axes c → has_numbers axes c ≡ true
 numbers_pass axes c h = whole c.sum c.count c.tie (edge_count axes) h.some h.few h.bytes h.edge
   where
-  whole : (s n t edges : ℕ) → 0 < n → n ≤ edges → s ≤ 255 * n → t < edges
-      → (nat_lt 0 n && (nat_le n edges && (nat_le s (255 * n) && nat_lt t edges))) ≡ true
-  whole s n t edges p q r u = grind (arith, nat_tests)
+    whole : (s n t edges : ℕ) → 0 < n → n ≤ edges → s ≤ 255 * n → t < edges
+        → (nat_lt 0 n && (nat_le n edges && (nat_le s (255 * n) && nat_lt t edges))) ≡ true
+    whole s n t edges p q r u = grind (arith, nat_tests)
 
 -- the test of the order
 before_means : (c d : Contact) → comes_before c d ≡ true → Before c d
@@ -145,8 +144,8 @@ order_means earlier m k d h last =
     subst (λ (e : Merge). Before e.contact m.contact) same
     (before_means (get_or earlier (length earlier - 1) m).contact m.contact (not_first (length earlier) _ (omega arith) h))
   where
-  not_first : (n : ℕ) (b : Bool) → 0 < n → (n == 0 || b) ≡ true → b ≡ true
-  not_first n b some h = grind (arith, nat_tests)
+    not_first : (n : ℕ) (b : Bool) → 0 < n → (n == 0 || b) ≡ true → b ≡ true
+    not_first n b some h = grind (arith, nat_tests)
 
 pub order_passes : (earlier : List Merge) (m : Merge)
     → ((k : ℕ) (d : Merge) → k + 1 ≡ length earlier → Before (get_or earlier k d).contact m.contact) → follows earlier m ≡ true
@@ -155,14 +154,14 @@ order_passes earlier m h = elim (none_or_some (length earlier)) [
   | inr some ↦ later (length earlier) _ (before_passes (get_or earlier (length earlier - 1) m).contact m.contact (h (length earlier - 1) m (omega arith)))
 ]
   where
-  none_or_some : (n : ℕ) → (n ≡ 0) ⊎ (0 < n)
-  none_or_some n = grind arith
+    none_or_some : (n : ℕ) → (n ≡ 0) ⊎ (0 < n)
+    none_or_some n = grind arith
 
-  first : (n : ℕ) (b : Bool) → n ≡ 0 → (n == 0 || b) ≡ true
-  first n b e = grind (arith, nat_tests)
+    first : (n : ℕ) (b : Bool) → n ≡ 0 → (n == 0 || b) ≡ true
+    first n b e = grind (arith, nat_tests)
 
-  later : (n : ℕ) (b : Bool) → b ≡ true → (n == 0 || b) ≡ true
-  later n b e = grind (arith, nat_tests)
+    later : (n : ℕ) (b : Bool) → b ≡ true → (n == 0 || b) ≡ true
+    later n b e = grind (arith, nat_tests)
 
 -- the test of the threshold
 pub above_means : (t : Threshold) (c : Contact) → reaches t c ≡ true → Reaches t c

@@ -1,22 +1,22 @@
 -- A list of bytes without a flaw holds a merge tree.
-use Rattle.std.proofs.Common.{◌≡◌, ℕ, ◌+◌, ◌-◌, ◌<◌, ◌*◌, ◌≤◌, ◌==◌, nat_lt, nat_eq, Bool, true, false, if◌then◌else◌, List, [], ◌∷◌, ◌++◌, length, get_or, map, Option, Some, None, refl, sym, ap, ◌∙◌, subst, arith, append_assoc, inl, inr, ◌⊎◌}
+use Rattle.std.proofs.Common.{◌≡◌, ℕ, ◌+◌, ◌-◌, ◌<◌, ◌*◌, ◌==◌, nat_lt, nat_eq, Bool, true, false, if◌then◌else◌, List, [], ◌∷◌, ◌++◌, length, get_or, Option, Some, None, refl, sym, ap, ◌∙◌, subst, arith, append_assoc, inl, inr, ◌⊎◌}
 use Rattle.std.specs.Prelude.{All, AllPairs}
-use Rattle.std.specs.List.{AllAdjacentBelow, range_with_len, starts_with}
+use Rattle.std.specs.List.{AllAdjacentBelow, starts_with}
 use Rattle.std.specs.Option.{option_map, option_or}
 use Rattle.std.proofs.lemmas.Bool.Decides.{nat_tests}
 use Rattle.std.proofs.lemmas.List.{append-nil, length_push, get_or_append_left, get_or-append_right}
 use Rattle.std.proofs.lemmas.List.Elements.{All-push}
 use Rattle.std.proofs.lemmas.List.Quantifiers.{all_pairs_push}
 use Rattle.std.proofs.lemmas.List.FromFn.{length-map-range_with_len}
-use Rattle.agglo_model.specs.Axes.{Axes, IsWithinLimits, AxesFlaw, voxel_count, axes_flaw}
+use Rattle.agglo_model.specs.Axes.{Axes, AxesFlaw, voxel_count, axes_flaw}
 use Rattle.agglo_model.specs.PairOrder.{Threshold, Before, Reaches}
 use Rattle.agglo_model.specs.Greedy.{Merge}
 use Rattle.agglo_model.specs.MergeTree.{HasNames, HasNumbers, Keeps, AreLawful, tree_magic}
 use Rattle.agglo_model.specs.VolumeFile.{header_axes, header_length, body}
-use Rattle.agglo_model.specs.TreeFile.{TreeFlaw, ShortHeader, Magic, BadAxes, Denominator, Count, Truncated, Trailing, MergeTree, IsMergeTree, header, header_threshold, header_merges, counts_flaw, header_flaw, record_flaw, records_flaw, body_flaw, merges_in, tree_flaw, tree_in, merge_at, record_length}
+use Rattle.agglo_model.specs.TreeFile.{TreeFlaw, BadAxes, header, header_threshold, header_merges, counts_flaw, header_flaw, record_flaw, records_flaw, body_flaw, merges_in, merge_at, record_length}
 use Rattle.agglo_model.specs.TreeLaws.{SoundFilesHoldTrees}
 use Rattle.agglo_model.proofs.AxesLimits.{within_limits}
-use Rattle.agglo_model.proofs.RecordFlaws.{IsSound, sound_record, no_flaw, names_mean, names_keep, names_pass, numbers_mean, numbers_pass, order_means, order_passes, above_means, above_passes}
+use Rattle.agglo_model.proofs.RecordFlaws.{IsSound, sound_record, names_mean, names_keep, numbers_mean, order_means, above_means}
 
 -- all that a lawful list is, but for how many merges there are
 pub record AreSound (axes : Axes) (t : Threshold) (merges : List Merge) : Type 0 where
@@ -51,13 +51,13 @@ falling_more earlier m falls last = λ k d below.
           (subst (λ (e : Merge). Before (get_or earlier k d).contact e.contact) (sym (at_end k d end)) (last k d end))
     ]
   where
-  inner_or_last : (k n : ℕ) → k + 1 < n + 1 → (k + 1 < n) ⊎ (k + 1 ≡ n)
-  inner_or_last k n h = grind arith
+    inner_or_last : (k n : ℕ) → k + 1 < n + 1 → (k + 1 < n) ⊎ (k + 1 ≡ n)
+    inner_or_last k n h = grind arith
 
-  at_end : (k : ℕ) (d : Merge) → k + 1 ≡ length earlier → get_or (earlier ++ m ∷ []) (k + 1) d ≡ m
-  at_end k d end =
-      let first : k + 1 - (k + 1) ≡ 0 = omega arith in
-      get_or-append_right earlier (m ∷ []) (k + 1) (k + 1) d (sym end) (omega arith) ∙ ap (λ n. get_or (m ∷ []) n d) first
+    at_end : (k : ℕ) (d : Merge) → k + 1 ≡ length earlier → get_or (earlier ++ m ∷ []) (k + 1) d ≡ m
+    at_end k d end =
+        let first : k + 1 - (k + 1) ≡ 0 = omega arith in
+        get_or-append_right earlier (m ∷ []) (k + 1) (k + 1) d (sym end) (omega arith) ∙ ap (λ n. get_or (m ∷ []) n d) first
 
 -- one record more
 one_more_sound : (axes : Axes) (t : Threshold) (earlier : List Merge) (m : Merge) → AreSound axes t earlier → IsSound axes t earlier m
@@ -128,11 +128,11 @@ sound_header bytes e =
       few = below (header_merges bytes) (voxel_count (header_axes bytes)) counts.1;
     }
   where
-  some : (n : ℕ) → (n == 0) ≡ false → 0 < n
-  some n h = grind (arith, nat_tests)
+    some : (n : ℕ) → (n == 0) ≡ false → 0 < n
+    some n h = grind (arith, nat_tests)
 
-  below : (n m : ℕ) → nat_lt n m ≡ true → n < m
-  below n m h = grind (arith, nat_tests)
+    below : (n m : ℕ) → nat_lt n m ≡ true → n < m
+    below n m h = grind (arith, nat_tests)
 
 body_parts : (short long : Bool) (records : Option TreeFlaw) (x y : TreeFlaw) → (if short then Some x else (if long then Some y else records)) ≡ None
     → records ≡ None

@@ -1,14 +1,13 @@
 -- Bytes that are read in pieces, up to a limit or to the end of the input.
-use Rattle.std.proofs.Common.{◌≡◌, ℕ, ◌+◌, ◌<◌, ◌≤◌, true, List, [], ◌++◌, length, take, drop, min, Option, Some, None, IfSome, refl, sym, ap, ◌∙◌, subst, arith, length-drop}
+use Rattle.std.proofs.Common.{◌≡◌, ℕ, ◌+◌, ◌≤◌, true, List, [], ◌++◌, length, take, drop, min, Option, Some, None, IfSome, refl, sym, ap, ◌∙◌, subst, arith, length-drop}
 use Rattle.std.specs.Option.{option_map}
-use Rattle.std.proofs.lemmas.List.{take_min}
 use Rattle.std.proofs.Math.Seq.{take-add}
 use Rattle.seg_io.specs.Desk.{DeskState, taken}
 use Rattle.seg_io.proofs.States.{for_some, taken-none, taken-taken}
 use Rattle.merge_tree.specs.declared.tree_fault.InputFault.{InputFault}
 use Rattle.merge_tree.specs.declared.tree_fault.InputFault.TheVariants.{Read, Memory}
-use Rattle.merge_tree.specs.TreeReading.{ReadsUpTo, FailsToRead, AppendsPiece}
-use Rattle.merge_tree.proofs.InputStates.{taken-min, fails_later}
+use Rattle.merge_tree.specs.TreeReading.{FailsToRead, AppendsPiece}
+use Rattle.merge_tree.proofs.InputStates.{fails_later}
 
 -- what was read so far is what was taken off the input
 pub record HasRead (bytes : List ℕ) (old now : DeskState) : Type 0 where

@@ -1,18 +1,17 @@
 -- Records that are judged one after another, with a table of the names that they absorbed.
 use Rattle.std.proofs.Common.{◌≡◌, ◌≢◌, ℕ, suc, ◌+◌, ◌*◌, ◌<◌, ◌≤◌, ◌==◌, Bool, true, false, not, ◌&&◌, List, [], ◌∷◌, ◌++◌, length, get_or, set, take, drop, Option, Some, None, refl, sym, ap, ◌∙◌, subst, arith, add-one, ◌⊎◌, inl, inr, replicate}
-use Rattle.std.specs.List.{list_all, range_with_len}
+use Rattle.std.specs.List.{list_all}
 use Rattle.std.specs.Option.{option_map, option_or}
 use Rattle.std.proofs.Math.Seq.{take-suc, drop-cons}
 use Rattle.std.proofs.lemmas.Bool.Decides.{nat_tests}
-use Rattle.std.proofs.lemmas.List.{take_all, drop_all, length-take-le, length-set, get_or-set_same, get_or-set_other, get_or-replicate, get_or_default}
+use Rattle.std.proofs.lemmas.List.{take_all, drop_all, length-take-le, length-set, get_or-set_same, get_or-set_other, get_or-replicate}
 use Rattle.std.proofs.lemmas.List.Folds.{list_all-append}
 use Rattle.std.proofs.lemmas.List.FromFn.{get_or-map-range_with_len}
 use Rattle.agglo_model.specs.Axes.{Axes, voxel_count}
 use Rattle.agglo_model.specs.PairOrder.{Threshold}
 use Rattle.agglo_model.specs.Greedy.{Merge}
-use Rattle.agglo_model.specs.TreeFile.{TreeFlaw, is_alive, has_names, merge_at, merges_in, record_flaw, records_flaw, record_length}
+use Rattle.agglo_model.specs.TreeFile.{TreeFlaw, is_alive, merge_at, merges_in, record_flaw, records_flaw, record_length}
 use Rattle.agglo_model.proofs.RecordFlaws.{sound_record, names_mean}
-use Rattle.agglo_model.proofs.SoundTrees.{as_many}
 use Rattle.merge_tree.specs.declared.tree_fault.TreeFault.{TreeFault}
 use Rattle.merge_tree.specs.TreeFault.{fault_of}
 use Rattle.merge_tree.specs.TreeReading.{Tells}
@@ -54,8 +53,8 @@ alive_more : (earlier : List Merge) (m : Merge) (name : ℕ)
 unfolding is_alive
 alive_more earlier m name = list_all-append (λ e. not (e.absorbed == name)) earlier (m ∷ []) ∙ last (list_all (λ e. not (e.absorbed == name)) earlier) (not (m.absorbed == name))
   where
-  last : (a b : Bool) → (a && (b && true)) ≡ (a && b)
-  last a b = grind (arith, nat_tests)
+    last : (a b : Bool) → (a && (b && true)) ≡ (a && b)
+    last a b = grind (arith, nat_tests)
 
 mark_more : (greatest : ℕ) (earlier : List Merge) (table : List Bool) (m : Merge) → m.absorbed < length table → AreMarked greatest earlier table
     → AreMarked greatest (earlier ++ m ∷ []) (set table m.absorbed true)
@@ -73,14 +72,14 @@ mark_more greatest earlier table m below marked = record {
       ];
 }
   where
-  same_or_other : (x y : ℕ) → (x ≡ y) ⊎ (x ≢ y)
-  same_or_other x y = grind arith
+    same_or_other : (x y : ℕ) → (x ≡ y) ⊎ (x ≢ y)
+    same_or_other x y = grind arith
 
-  gone : (alive : Bool) (x y : ℕ) → x ≡ y → not (alive && not (x == y)) ≡ true
-  gone alive x y e = grind (arith, nat_tests)
+    gone : (alive : Bool) (x y : ℕ) → x ≡ y → not (alive && not (x == y)) ≡ true
+    gone alive x y e = grind (arith, nat_tests)
 
-  kept : (alive : Bool) (x y : ℕ) → y ≢ x → not (alive && not (x == y)) ≡ not alive
-  kept alive x y e = grind (arith, nat_tests)
+    kept : (alive : Bool) (x y : ℕ) → y ≢ x → not (alive && not (x == y)) ≡ not alive
+    kept alive x y e = grind (arith, nat_tests)
 
 -- the rest begins with the record at hand
 rest_is : (all : List Merge) (i : ℕ) (m : Merge) → i < length all → m ≡ get_or all i m → drop i all ≡ m ∷ drop (i + 1) all
@@ -115,7 +114,7 @@ judged_more axes t all merges now i a table m made below at e made_is now_is sou
     }
 
 -- a flaw of this record is the first of all
-told_first : (o p : Option TreeFlaw) (fault : TreeFault) → Tells fault o → Tells fault (option_or o p)
+pub told_first : (o p : Option TreeFlaw) (fault : TreeFault) → Tells fault o → Tells fault (option_or o p)
 told_first None p fault e = absurd (cc)
 told_first (Some flaw) p fault e = e
 

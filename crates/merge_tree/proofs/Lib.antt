@@ -6,3 +6,5 @@ mod Records
 mod Judged
 mod InputStates
 mod InputPieces
+mod Headers
+mod WholeTrees

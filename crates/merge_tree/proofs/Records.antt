@@ -1,5 +1,5 @@
 -- The flaw of one record after others.
-use Rattle.std.proofs.Common.{◌≡◌, ℕ, ◌+◌, ◌<◌, nat_lt, nat_le, Bool, true, false, not, ◌&&◌, IsTrue, if◌then◌else◌, List, length, get_or, Option, Some, None, refl, sym, ap, ◌∙◌, arith}
+use Rattle.std.proofs.Common.{◌≡◌, ℕ, ◌+◌, ◌<◌, nat_lt, nat_le, Bool, true, false, not, ◌&&◌, IsTrue, List, length, get_or, Some, refl, sym, ap, ◌∙◌, arith}
 use Rattle.std.specs.Option.{option_map}
 use Rattle.std.proofs.lemmas.Bool.Decides.{nat_tests}
 use Rattle.agglo_model.specs.Axes.{Axes, voxel_count}
@@ -63,9 +63,9 @@ pub reaches_is : (t : Threshold) (c d : ContactNumbers) (r : Bool) → c ≡ d �
     → reaches t d ≡ r
 reaches_is t c d r e says meets = ap (reaches t) (sym e) ∙ here r says meets
   where
-  here : (r : Bool) → (IsTrue r → Reaches t c) → (Reaches t c → IsTrue r) → reaches t c ≡ r
-  here true says meets = let h = says refl in grind (arith, nat_tests)
-  here false says meets = grind (arith, nat_tests)
+    here : (r : Bool) → (IsTrue r → Reaches t c) → (Reaches t c → IsTrue r) → reaches t c ≡ r
+    here true says meets = let h = says refl in grind (arith, nat_tests)
+    here false says meets = grind (arith, nat_tests)
 
 -- a merge that is made of a record's names and of its contact is the record
 pub same_merge : (raw m : Merge) (c : ContactNumbers) → m ≡ raw → c ≡ raw.contact

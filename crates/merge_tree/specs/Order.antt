@@ -1,5 +1,5 @@
 -- Pair order on merges, as a test and as a relation.
-use Rattle.std.specs.Prelude.{◌*◌, ◌<◌, ◌==◌, nat_lt, Bool, ◌&&◌, ◌||◌}
+use Rattle.std.specs.Prelude.{◌<◌, ◌==◌, nat_lt, Bool, ◌&&◌, ◌||◌}
 use Rattle.agglo_model.specs.PairOrder.{Before, SameRank}
 use Rattle.agglo_model.specs.Greedy.{Merge}
 use Rattle.agglo_model.specs.TreeFile.{comes_before}

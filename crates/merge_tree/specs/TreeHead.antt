@@ -1,10 +1,10 @@
 -- What is read of a header.
-use Rattle.std.specs.Prelude.{◌≡◌, ℕ, List, None, IfSome, take}
+use Rattle.std.specs.Prelude.{◌≡◌, ℕ, List, None, IfSome}
 use Rattle.agglo_model.specs.VolumeFile.{header_length, header_axes}
 use Rattle.agglo_model.specs.TreeFile.{header, header_flaw, header_threshold, header_merges}
 use Rattle.seg_io.specs.Desk.{DeskState, taken, FailsAfterReading}
 use Rattle.merge_tree.specs.declared.tree_fault.TreeFault.{TreeFault}
-use Rattle.merge_tree.specs.declared.tree_fault.TreeFault.TheVariants.{Read, Memory}
+use Rattle.merge_tree.specs.declared.tree_fault.TreeFault.TheVariants.{Read}
 use Rattle.merge_tree.specs.declared.tree_records.Head.{Head}
 use Rattle.merge_tree.specs.TreeReading.{Tells}
 

@@ -1,12 +1,8 @@
 -- What the calls that read a tree file take off a desk's input, and what they answer. A desk may tell its
 -- input or not; what is said of the bytes is said where it does.
-use Rattle.std.specs.Prelude.{◌≡◌, ◌≢◌, ℕ, ◌+◌, ◌*◌, ◌≤◌, ◌<◌, List, [], ◌++◌, length, take, min, Option, Some, None, IfSome}
+use Rattle.std.specs.Prelude.{◌≡◌, ℕ, ◌+◌, ◌≤◌, List, [], ◌++◌, length, take, min, Option, Some, None, IfSome}
 use Rattle.std.specs.Option.{option_map}
-use Rattle.agglo_model.specs.Axes.{Axes, voxel_count}
-use Rattle.agglo_model.specs.PairOrder.{Threshold}
-use Rattle.agglo_model.specs.Greedy.{Merge}
-use Rattle.agglo_model.specs.VolumeFile.{header_length, header_axes}
-use Rattle.agglo_model.specs.TreeFile.{MergeTree, TreeFlaw, header, header_threshold, header_merges, header_flaw, body_flaw, tree_flaw, tree_in, merges_in}
+use Rattle.agglo_model.specs.TreeFile.{MergeTree, TreeFlaw, tree_flaw, tree_in}
 use Rattle.seg_io.specs.Desk.{DeskState, taken, FailsAfterReading}
 use Rattle.merge_tree.specs.declared.tree_fault.TreeFault.{TreeFault}
 use Rattle.merge_tree.specs.declared.tree_fault.TreeFault.TheVariants.{Read, Memory}

@@ -36,10 +36,12 @@ pub returns : goal.returns
 returns c =
     let names : has_names c.args.head.now.dims c.args.earlier.now c.args.raw ≡ true =
     table_says c.args.head.now.dims c.args.earlier.now c.args.absorbed.now c.args.raw _ _ c.requires.marked c.can_merge.ensures c.if-not-can_merge.false in
-    let same = same_merge c.args.raw _ _ c.raw.view_is c.in-Some.ensures.1 in
-    (no_flaw c.args.head.now.dims c.args.head.now.threshold c.args.earlier.now c.args.raw record {
-      names = names;
-      numbers = c.in-Some.ensures.0;
-      next = order_says c.args.earlier.now _ c.args.raw _ _ same c.is_next.ensures c.if-not-is_next.false;
-      above = reaches_is c.args.head.now.threshold c.in-Some.contact c.args.raw.contact _ c.in-Some.ensures.1 c.reaches.ensures.0 c.reaches.ensures.1 ∙ c.if-not-reaches.false;
-    }, same)
+    let same = same_merge c.args.raw _ _ c.raw.view_is c.in-Some.ensures.1 in (
+      no_flaw c.args.head.now.dims c.args.head.now.threshold c.args.earlier.now c.args.raw record {
+        names = names;
+        numbers = c.in-Some.ensures.0;
+        next = order_says c.args.earlier.now _ c.args.raw _ _ same c.is_next.ensures c.if-not-is_next.false;
+        above = reaches_is c.args.head.now.threshold c.in-Some.contact c.args.raw.contact _ c.in-Some.ensures.1 c.reaches.ensures.0 c.reaches.ensures.1 ∙ c.if-not-reaches.false;
+      },
+      same,
+    )
