@@ -27,3 +27,4 @@ pub mod HeaderFlaws
 pub mod TreeBodies
 pub mod RecordFlaws
 pub mod SoundTrees
+pub mod ReadBack
