@@ -46,3 +46,8 @@ pub mod DroppedNames
 pub mod RootCell
 pub mod WorksRun
 pub mod NodeTests
+pub mod HeaderFlaws
+pub mod TreeBodies
+pub mod RecordFlaws
+pub mod SoundTrees
+pub mod ReadBack

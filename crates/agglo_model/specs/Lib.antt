@@ -33,3 +33,6 @@ pub mod Segmentation
 pub mod NodeExamples
 pub mod Joining
 pub mod JoiningLaws
+pub mod TreeFile
+pub mod TreeExamples
+pub mod TreeLaws

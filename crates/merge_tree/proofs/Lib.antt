@@ -1,1 +1,10 @@
 mod Blocks
+mod Reordered
+mod Ranks
+mod FinalNames
+mod Records
+mod Judged
+mod InputStates
+mod InputPieces
+mod Headers
+mod WholeTrees

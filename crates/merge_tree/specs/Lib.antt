@@ -1,2 +1,9 @@
 pub use Rattle.agglo_model.specs.LabelFile
 pub use Rattle.agglo_model.specs.LabelMap
+pub use Rattle.agglo_model.specs.TreeFile
+pub mod Renaming
+pub mod Order
+pub mod TreeFault
+pub mod TreeReading
+pub mod TreeHead
+pub mod TreeRecords

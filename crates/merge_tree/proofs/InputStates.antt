@@ -1,0 +1,39 @@
+-- What is left of a desk's input.
+use Rattle.std.proofs.Common.{◌≡◌, ℕ, ◌+◌, ◌≤◌, List, [], length, drop, min, Option, Some, None, IfSome, refl, ap, ◌∙◌, subst}
+use Rattle.std.specs.Option.{option_map}
+use Rattle.std.proofs.lemmas.List.{drop_min, drop_all}
+use Rattle.agglo_model.specs.Count.{Rose}
+use Rattle.seg_io.specs.Desk.{DeskState, taken, FailsAfterReading}
+use Rattle.seg_io.proofs.States.{taken-taken}
+use Rattle.merge_tree.specs.TreeReading.{emptied}
+
+input_min : (o : Option (List ℕ)) (n k : ℕ) → IfSome o (λ bytes. k ≡ min n (length bytes))
+    → option_map (drop k) o ≡ option_map (drop n) o
+input_min None n k all = refl
+input_min (Some bytes) n k all = ap Some (ap (λ (m : ℕ). drop m bytes) all ∙ drop_min n bytes)
+
+-- as many as there are, up to n, are the first n
+pub taken-min : (s : DeskState) (n k : ℕ) → IfSome s.input (λ bytes. k ≡ min n (length bytes)) → taken k s ≡ taken n s
+taken-min s n k all = ap (λ (i : Option (List ℕ)). record s { input = i }) (input_min s.input n k all)
+
+input_all : (o : Option (List ℕ)) (n : ℕ) → IfSome o (λ bytes. length bytes ≤ n)
+    → option_map (drop n) o ≡ option_map (λ (bytes : List ℕ). []) o
+input_all None n all = refl
+input_all (Some bytes) n all = ap Some (drop_all n bytes all)
+
+-- where there are no more than n, nothing is left after n
+pub taken-all : (s : DeskState) (n : ℕ) → IfSome s.input (λ bytes. length bytes ≤ n) → taken n s ≡ emptied s
+taken-all s n all = ap (λ (i : Option (List ℕ)). record s { input = i }) (input_all s.input n all)
+
+-- a read fails after n bytes were taken
+pub fails_later : (n : ℕ) (old now new : DeskState) → now ≡ taken n old → FailsAfterReading now new
+    → FailsAfterReading old new
+fails_later n old now new before fails =
+    let same : now.input_faults ≡ old.input_faults = ap (λ (s : DeskState). s.input_faults) before in
+    record {
+      read = n + fails.read;
+      fault = subst (λ (m : ℕ). Rose m new.input_faults) same fails.fault;
+      after = fails.after
+          ∙ (ap (λ (s : DeskState). record (taken fails.read s) { input_faults = new.input_faults }) before
+          ∙ ap (λ (s : DeskState). record s { input_faults = new.input_faults }) (taken-taken n fails.read old));
+    }

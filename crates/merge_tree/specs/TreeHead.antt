@@ -1,0 +1,31 @@
+-- What is read of a header.
+use Rattle.std.specs.Prelude.{◌≡◌, ℕ, List, None, IfSome}
+use Rattle.agglo_model.specs.VolumeFile.{header_length, header_axes}
+use Rattle.agglo_model.specs.TreeFile.{header, header_flaw, header_threshold, header_merges}
+use Rattle.seg_io.specs.Desk.{DeskState, taken, FailsAfterReading}
+use Rattle.merge_tree.specs.declared.tree_fault.TreeFault.{TreeFault}
+use Rattle.merge_tree.specs.declared.tree_fault.TreeFault.TheVariants.{Read}
+use Rattle.merge_tree.specs.declared.tree_records.Head.{Head}
+use Rattle.merge_tree.specs.TreeReading.{Tells}
+
+-- the header says this
+pub record SaysHead (head : Head) (bytes : List ℕ) : Type 0 where
+  pub axes : head.dims ≡ header_axes bytes
+  pub threshold : head.threshold ≡ header_threshold bytes
+  pub merges : head.merges ≡ header_merges bytes
+
+-- The input left begins with a sound header that says this. It was taken off.
+pub record ReadsHead (head : Head) (old new : DeskState) : Type 0 where
+  pub sound : IfSome old.input (λ bytes. header_flaw (header bytes) ≡ None)
+  pub says : IfSome old.input (λ bytes. SaysHead head (header bytes))
+  pub after : new ≡ taken header_length old
+
+-- The first 32 bytes, or as many as there are, have the flaw that this fault tells of, and were taken off.
+pub record FindsBadHead (fault : TreeFault) (old new : DeskState) : Type 0 where
+  pub flaw : IfSome old.input (λ bytes. Tells fault (header_flaw (header bytes)))
+  pub after : new ≡ taken header_length old
+
+-- no header was read
+abbrev pub FailsToReadHead : TreeFault → DeskState → DeskState → Type 0
+FailsToReadHead Read old new = FailsAfterReading old new
+FailsToReadHead fault old new = FindsBadHead fault old new

@@ -1,0 +1,60 @@
+-- What the calls that read a tree file take off a desk's input, and what they answer. A desk may tell its
+-- input or not; what is said of the bytes is said where it does.
+use Rattle.std.specs.Prelude.{◌≡◌, ℕ, ◌+◌, ◌≤◌, List, [], ◌++◌, length, take, min, Option, Some, None, IfSome}
+use Rattle.std.specs.Option.{option_map}
+use Rattle.agglo_model.specs.TreeFile.{MergeTree, TreeFlaw, tree_flaw, tree_in}
+use Rattle.seg_io.specs.Desk.{DeskState, taken, FailsAfterReading}
+use Rattle.merge_tree.specs.declared.tree_fault.TreeFault.{TreeFault}
+use Rattle.merge_tree.specs.declared.tree_fault.TreeFault.TheVariants.{Read, Memory}
+use Rattle.merge_tree.specs.declared.tree_fault.InputFault.{InputFault}
+use Rattle.merge_tree.specs.declared.tree_fault.InputFault.TheVariants.{Read as InputRead, Memory as InputMemory}
+use Rattle.merge_tree.specs.TreeFault.{fault_of}
+
+-- some bytes were taken off the input, and nothing else happened
+pub record TakesSome (old new : DeskState) : Type 0 where
+  pub count : ℕ
+  pub after : new ≡ taken count old
+
+-- the state with nothing left of the input
+abbrev pub emptied : DeskState → DeskState
+emptied s = record s { input = option_map (λ _. []) s.input }
+
+-- The input left was a whole tree file, of this tree. Nothing is left of it.
+pub record ReadsTree (tree : MergeTree) (old new : DeskState) : Type 0 where
+  pub sound : IfSome old.input (λ bytes. tree_flaw bytes ≡ None)
+  pub says : IfSome old.input (λ bytes. tree ≡ tree_in bytes)
+  pub after : new ≡ emptied old
+
+-- the fault tells of this flaw
+abbrev pub Tells : TreeFault → Option TreeFlaw → Type 0
+Tells fault flaw = option_map fault_of flaw ≡ Some fault
+
+-- The input left has a flaw that this fault tells of. Some of it was taken off.
+pub record FindsBadTree (fault : TreeFault) (old new : DeskState) : Type 0 where
+  pub flaw : IfSome old.input (λ bytes. Tells fault (tree_flaw bytes))
+  pub after : TakesSome old new
+
+-- no tree was read
+abbrev pub FailsToReadTree : TreeFault → DeskState → DeskState → Type 0
+FailsToReadTree Read old new = FailsAfterReading old new
+FailsToReadTree Memory old new = TakesSome old new
+FailsToReadTree fault old new = FindsBadTree fault old new
+
+-- The first bytes of the input, as many as there are up to a limit, were read, and taken off.
+pub record ReadsUpTo (most : ℕ) (bytes : List ℕ) (old new : DeskState) : Type 0 where
+  pub says : IfSome old.input (λ input. bytes ≡ take most input)
+  pub after : new ≡ taken most old
+
+-- bytes could not be read
+abbrev pub FailsToRead : InputFault → DeskState → DeskState → Type 0
+FailsToRead InputRead old new = FailsAfterReading old new
+FailsToRead InputMemory old new = TakesSome old new
+
+-- The first `got` bytes of the input were appended and taken off: `count` of them, or fewer only where the
+-- input came to its end.
+pub record AppendsPiece (got count : ℕ) (before after : List ℕ) (old new : DeskState) : Type 0 where
+  pub room : got ≤ count
+  pub counted : length after ≡ length before + got
+  pub front : IfSome old.input (λ input. after ≡ before ++ take got input)
+  pub all : IfSome old.input (λ input. got ≡ min count (length input))
+  pub moved : new ≡ taken got old
