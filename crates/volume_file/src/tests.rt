@@ -152,16 +152,23 @@ fn a_body_is_neither_short_nor_long(rt: HostRuntime) -> Result<(), Trouble> {
     Ok(())
 }
 
-#[test]
-fn a_read_that_fails_is_told(rt: HostRuntime) -> Result<(), Trouble> {
-    let file = file_of(rt.alloc(), [4, 1, 1], 3, &[5; 12])?;
-    let mut desk = MemoryDesk::new(rt.alloc(), 0)?;
-    desk.add_file("v", &file)?;
+/// What reading a file of these bytes answers in pieces of seven bytes, where the sixth read fails, and
+/// how many bytes are left of it.
+fn read_with_a_fault(alloc: Global, file: &[u8]) -> Result<(Option<VolumeFault>, usize), Trouble> {
+    let mut desk = MemoryDesk::new(alloc, 0)?;
+    desk.add_file("v", file)?;
     desk.fail_call(CallKind::Read, 6)?;
     desk.at_most(7);
     desk.open_in("v")?;
-    let answer = read_volume(rt.alloc(), &mut desk);
-    assert_eq!(rt; answer.err(), Some(VolumeFault::Read));
-    assert_eq!(rt; desk.left(), 12, "the header was read, in five pieces");
+    let answer = read_volume(alloc, &mut desk);
+    Ok((answer.err(), desk.left()))
+}
+
+#[test]
+fn a_read_that_fails_is_told(rt: HostRuntime) -> Result<(), Trouble> {
+    let file = file_of(rt.alloc(), [4, 1, 1], 3, &[5; 12])?;
+    let (fault, left) = read_with_a_fault(rt.alloc(), &file)?;
+    assert_eq!(rt; fault, Some(VolumeFault::Read));
+    assert_eq!(rt; left, 12, "the header was read, in five pieces");
     Ok(())
 }
