@@ -2,7 +2,7 @@
 use Rattle.std.proofs.Common.{◌≡◌, ◌≢◌, ℕ, ◌⊎◌, ◌↔◌, Bool, true, List, [], ◌∷◌, Option, Some, None, IsSome, IfSome, refl, sym, ap, subst, ◌∙◌, inl, inr}
 use Rattle.std.specs.Option.{option_map, option_and_then}
 use Rattle.agglo_model.specs.Count.{Rose}
-use Rattle.agglo_model.specs.Words.{BasinsSettings, SpellsBasins}
+use Rattle.agglo_cli.specs.Words.{BasinsSettings, SpellsBasins}
 use Rattle.agglo_model.specs.VolumeFile.{VolumeFlaw, volume_flaw}
 use Rattle.seg_io.specs.Desk.{DeskState, File, file_named}
 use Rattle.volume_file.specs.declared.fault.VolumeFault.{VolumeFault}

@@ -1,3 +1,4 @@
+pub mod Words
 pub mod FileDesk
 pub mod Texts
 pub mod Reading

@@ -1,6 +1,6 @@
 -- What a run does that ends without its answer.
 use Rattle.std.specs.Prelude.{◌≡◌, ℕ, ◌⊎◌, List}
-use Rattle.agglo_model.specs.Words.{BasinsSettings, SpellsBasins}
+use Rattle.agglo_cli.specs.Words.{BasinsSettings, SpellsBasins}
 use Rattle.seg_io.specs.Desk.{DeskState}
 use Rattle.agglo_cli.specs.declared.refusal.Refusal.{Refusal}
 use Rattle.agglo_cli.specs.declared.refusal.Refusal.TheVariants.{Memory, Words, Volume, Input, Output}

@@ -6,7 +6,7 @@ use Rattle.agglo_model.specs.Basins.{AreBasins}
 use Rattle.agglo_model.specs.LabelFile.{label_file}
 use Rattle.agglo_model.specs.Note.{basins_note}
 use Rattle.agglo_model.specs.VolumeFile.{volume_flaw}
-use Rattle.agglo_model.specs.Words.{BasinsSettings, SpellsBasins}
+use Rattle.agglo_cli.specs.Words.{BasinsSettings, SpellsBasins}
 use Rattle.seg_io.specs.Desk.{DeskState, CanOpen}
 use Rattle.seg_io.specs.declared.port.Port.TheVariants.{Labels, Tree, Volume}
 use Rattle.agglo_cli.specs.Reading.{file_of, HasFile, ReadsFile, FailsToReadFile, OnlyInputChanges}

@@ -1,7 +1,7 @@
 -- The words of the command line, as the lists of bytes that the definitions speak of.
 use Rattle.std.specs.Prelude.{◌≡◌, ℕ, List, map, String, string_bytes}
 use Rattle.std.specs.declared.alloc.Global.{Global}
-use Rattle.agglo_model.specs.Words.{BasinsSettings, SpellsBasins}
+use Rattle.agglo_cli.specs.Words.{BasinsSettings, SpellsBasins}
 use Rattle.agglo_cli.specs.declared.job.Job.{Job}
 use Rattle.agglo_cli.specs.declared.job.Job.TheVariants.{Basins}
 use Rattle.agglo_cli.specs.declared.job.WordsFault.{WordsFault}

@@ -1,7 +1,7 @@
 ghost use Rattle.std.specs.Prelude.{◌≡◌, ◌≢◌, ℕ, ◌<◌, ◌^◌, ◌-◌, ◌⊎◌, ◌↔◌, None, IsSome, IfSome, MatchResult};
 ghost use Rattle.agglo_model.specs.Count.{Rose};
 ghost use Rattle.agglo_model.specs.VolumeFile.{volume_flaw};
-ghost use Rattle.agglo_model.specs.Words.{BasinsSettings, SpellsBasins};
+ghost use Rattle.agglo_cli.specs.Words.{BasinsSettings, SpellsBasins};
 ghost use Rattle.agglo_cli.specs.Texts.{texts, SpellNothing};
 ghost use Rattle.agglo_cli.specs.Reading.{HasFile, OnlyInputChanges};
 ghost use Rattle.agglo_cli.specs.Run.{IsFresh, FinishesBasins, Finishes, StopsOnTheWay, NamesAFlawedFile, NamesAWholeFile, IsStatus};

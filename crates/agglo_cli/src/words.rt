@@ -1,6 +1,6 @@
 ghost use Rattle.std.specs.Prelude.{◌≡◌, ℕ, ◌≤◌, ◌↔◌, IsTrue, All, MatchOption, MatchResult, length, codes};
 ghost use Rattle.std.specs.Char.{IsAsciiDigit};
-ghost use Rattle.agglo_model.specs.Words.{IsName, AreNames, IsNumber, digits_number};
+ghost use Rattle.agglo_cli.specs.Words.{IsName, AreNames, IsNumber, digits_number};
 ghost use Rattle.agglo_cli.specs.Texts.{texts, SpellsJob, SpellsValues, SpellNothing, RefusesWords};
 
 use crate::job::{Job, WordsFault};

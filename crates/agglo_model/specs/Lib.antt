@@ -13,7 +13,6 @@ pub mod MergeTree
 pub mod MergeLaws
 pub mod Note
 pub mod Report
-pub mod Words
 pub mod GreedyExamples
 pub mod Cell
 pub mod Cutting

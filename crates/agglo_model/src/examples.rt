@@ -7,7 +7,6 @@ ghost use Rattle.agglo_model.specs.Examples.{box, file_with, labels_by_higher, l
 ghost use Rattle.agglo_model.specs.LabelFile.{label_file};
 ghost use Rattle.agglo_model.specs.Note.{basins_note};
 ghost use Rattle.agglo_model.specs.VolumeFile.{BadAxes, Channels, Magic, Reserved, ShortHeader, Trailing, Truncated, volume_flaw, volume_in};
-ghost use Rattle.agglo_model.specs.Words.{digits_number};
 
 /// Two pairs of voxels, each with a strong edge: two basins, named by their first voxels.
 pub fn basins_of_two_pairs()
@@ -133,11 +132,4 @@ pub fn flaws_of_axes()
 pub fn flaws_of_bodies()
     ensures short { volume_flaw (take 43 two_basins_file) ≡ Some (Truncated 11) }
     ensures long { volume_flaw (two_basins_file ++ 0 ∷ []) ≡ Some Trailing }
-{}
-
-/// Decimal digits spell a number, leading zeros or not.
-pub fn numbers_of_digits()
-    ensures plain { digits_number (codes "255") ≡ 255 }
-    ensures zeros { digits_number (codes "007") ≡ 7 }
-    ensures zero { digits_number (codes "0") ≡ 0 }
 {}

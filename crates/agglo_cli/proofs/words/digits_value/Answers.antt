@@ -3,7 +3,7 @@ use Rattle.std.proofs.lemmas.Grind.{common_steps, pow_more}
 use Rattle.std.proofs.lemmas.List.Sums.{fold_more}
 use Rattle.std.proofs.lemmas.List.Elements.{All-more}
 use Rattle.std.specs.Char.{IsAsciiDigit}
-use Rattle.agglo_model.specs.Words.{digits_number}
+use Rattle.agglo_cli.specs.Words.{digits_number}
 use Rattle.agglo_cli.proofs.words.digits_value.Goals as goal
 
 -- one digit more

@@ -1,6 +1,6 @@
 use Rattle.std.proofs.Common.{◌≡◌, ◌<◌, ◌^◌, All, take}
 use Rattle.std.specs.Char.{IsAsciiDigit}
-use Rattle.agglo_model.specs.Words.{digits_number}
+use Rattle.agglo_cli.specs.Words.{digits_number}
 use Rattle.agglo_cli.proofs.words.digits_value.Given as goal
 
 -- the digits so far are digits, spell the number, and are too few for it to be large

@@ -1,0 +1,22 @@
+-- What the words of the command line ask for, as the program's own jobs.
+use Rattle.std.specs.Prelude.{ℕ, List, string_bytes}
+use Rattle.command_words.specs.Words.{Task, Basins, Show, Spells, AreNoSettings}
+use Rattle.command_words.specs.declared.job.Job.{Job}
+use Rattle.command_words.specs.declared.job.Job.TheVariants as jobs
+use Rattle.command_words.specs.declared.job.WordsFault.{WordsFault}
+use Rattle.command_words.specs.declared.job.WordsFault.TheVariants.{NoSettings, Memory}
+
+-- what a job is
+abbrev pub task_of : Job → Task
+task_of (jobs.Basins volume labels low) =
+    Basins (record { volume = string_bytes volume; labels = string_bytes labels; low = low })
+task_of (jobs.Show tree) = Show (string_bytes tree)
+
+-- the words spell this job
+abbrev pub SpellsJob : List (List ℕ) → Job → Type 0
+SpellsJob words job = Spells words (task_of job)
+
+-- why words were refused: memory is asked for only once they are settings
+abbrev pub RefusesWords : List (List ℕ) → WordsFault → Type 0
+RefusesWords words NoSettings = AreNoSettings words
+RefusesWords words Memory = (task : Task) × Spells words task

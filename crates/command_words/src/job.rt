@@ -1,0 +1,39 @@
+use std::alloc::AllocError;
+use thiserror::Error;
+
+/// What the words of the command line ask for.
+#[derive(Debug, Drop)]
+pub enum Job {
+    /// Write the label file of the basins of a volume.
+    Basins {
+        volume: String,
+        labels: String,
+        low: u8,
+    },
+    /// Print what a merge tree file holds.
+    Show {
+        tree: String,
+    },
+}
+
+/// Why words were not taken for a job.
+#[derive(Clone, Copy, Debug, PartialEq, Eq, Error)]
+pub enum WordsFault {
+    /// The words are no settings of any command.
+    #[error("words not understood")]
+    NoSettings,
+    /// There was no memory for the names of files.
+    #[error("out of memory")]
+    Memory,
+}
+
+impl From<AllocError> for WordsFault {
+    ghost use Rattle.std.specs.Prelude.{◌≡◌};
+    ghost use Rattle.command_words.specs.declared.job.WordsFault.TheVariants.{Memory};
+
+    ghost from_gives = { λ _ e. e ≡ Memory };
+
+    fn from(_error: AllocError) -> WordsFault {
+        WordsFault::Memory
+    }
+}

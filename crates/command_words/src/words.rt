@@ -1,0 +1,59 @@
+ghost use Rattle.std.specs.Prelude.{MatchResult, codes};
+ghost use Rattle.command_words.specs.Jobs.{SpellsJob, RefusesWords};
+ghost use Rattle.command_words.specs.Made.{MakesJob};
+ghost use Rattle.command_words.specs.Texts.{texts};
+
+use crate::job::{Job, WordsFault};
+use crate::options::{Options, read_options};
+use crate::settings::{basins_values, show_values};
+use std::alloc::Global;
+
+/// What the words after the program's name ask for. Words that are no settings are refused without
+/// taking memory.
+pub fn read_words(alloc: Global, words: &[String]) -> Result<Job, WordsFault>
+    ensures { MatchResult result (SpellsJob (texts words.now)) (RefusesWords (texts words.now)) }
+{
+    let [command, others @ ..] = words else {
+        return Err(WordsFault::NoSettings);
+    };
+    let Some(options) = read_options(others) else {
+        return Err(WordsFault::NoSettings);
+    };
+    read_command(alloc, command.as_str(), &options)
+}
+
+/// The job of a command with these options.
+fn read_command(alloc: Global, command: &str, options: &Options<'_>) -> Result<Job, WordsFault>
+    ensures { MakesJob command.now options.now.values result }
+{
+    match command {
+        "basins" => read_basins(alloc, options),
+        "show" => read_show(alloc, options),
+        _ => Err(WordsFault::NoSettings),
+    }
+}
+
+fn read_basins(alloc: Global, options: &Options<'_>) -> Result<Job, WordsFault>
+    ensures { MakesJob (codes "basins") options.now.values result }
+{
+    let Some(values) = basins_values(options) else {
+        return Err(WordsFault::NoSettings);
+    };
+    let volume = String::from_str(alloc, values.volume)?;
+    let labels = String::from_str(alloc, values.labels)?;
+    Ok(Job::Basins {
+        volume,
+        labels,
+        low: values.low,
+    })
+}
+
+fn read_show(alloc: Global, options: &Options<'_>) -> Result<Job, WordsFault>
+    ensures { MakesJob (codes "show") options.now.values result }
+{
+    let Some(tree) = show_values(options) else {
+        return Err(WordsFault::NoSettings);
+    };
+    let tree = String::from_str(alloc, tree)?;
+    Ok(Job::Show { tree })
+}
