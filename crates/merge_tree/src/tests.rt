@@ -1,4 +1,5 @@
-ghost use Rattle.std.specs.Prelude.{◌≡◌, ◌≤◌, ◌^◌, IfOk};
+ghost use Rattle.std.specs.Prelude.{◌≡◌, IfOk, All, AllPairs};
+ghost use Rattle.merge_tree.specs.Order.{DifferInRank};
 ghost use Rattle.merge_tree.specs.Renaming.{HasSmallNames};
 
 use crate::{Merge, Tree, TreeFault, apply, in_order, put_tree, read_tree};
@@ -68,29 +69,58 @@ fn fault_of(alloc: Global, file: &[u8]) -> Result<Option<TreeFault>, Trouble> {
     Ok(read_tree(alloc, &mut desk).err())
 }
 
-/// Reads a tree file and writes the tree again; answers what is written then.
-fn copied(alloc: Global, file: &[u8]) -> Result<Vec<u8>, Trouble> {
-    let mut desk = desk_of(alloc, file)?;
-    desk.open_in("t")?;
-    let tree = read_tree(alloc, &mut desk)?;
-    desk.open_out(Port::Tree, "out")?;
-    put_tree(&mut desk, &tree)?;
+/// The bytes that are written of a tree.
+fn written(alloc: Global, tree: &Tree) -> Result<Vec<u8>, Trouble> {
+    let mut desk = MemoryDesk::new(alloc, 1000)?;
+    desk.open_out(Port::Tree, "t")?;
+    put_tree(&mut desk, tree)?;
     Ok(desk.written(Port::Tree).to_vec(alloc)?)
 }
 
-/// A merge of these names with the contact of these numbers.
-fn merge(survivor: u32, absorbed: u32, sum: u64, count: u64, tie: u32) -> Result<Merge, Trouble> {
-    let contact = Contact::of(sum, count, tie).ok_or(Trouble::Numbers)?;
-    Ok(Merge {
-        survivor,
-        absorbed,
-        contact,
-    })
+/// The tree that is read from a file of these bytes.
+fn read(alloc: Global, file: &[u8]) -> Result<Tree, Trouble> {
+    let mut desk = desk_of(alloc, file)?;
+    desk.open_in("t")?;
+    Ok(read_tree(alloc, &mut desk)?)
+}
+
+/// The contact of these numbers.
+fn contact(sum: u64, count: u64, tie: u32) -> Result<Contact, Trouble>
+    ensures { IfOk result (λ made. made ≡ record { sum = sum; count = count; tie = tie }) }
+{
+    match Contact::of(sum, count, tie) {
+        Some(contact) => Ok(contact),
+        None => Err(Trouble::Numbers),
+    }
+}
+
+/// Merges in a row of eight voxels, in pair order.
+fn row_merges(alloc: Global) -> Result<Vec<Merge>, Trouble>
+    ensures small { IfOk result (λ merges. All HasSmallNames merges.items) }
+    ensures ranks { IfOk result (λ merges. AllPairs DifferInRank merges.items) }
+{
+    let one = Merge {
+        survivor: 1,
+        absorbed: 3,
+        contact: contact(100, 1, 6)?,
+    };
+    let two = Merge {
+        survivor: 1,
+        absorbed: 5,
+        contact: contact(90, 1, 12)?,
+    };
+    let three = Merge {
+        survivor: 5,
+        absorbed: 7,
+        contact: contact(100, 1, 18)?,
+    };
+    Ok([one, three, two].to_vec(alloc)?)
 }
 
 #[test]
 fn a_tree_file_is_read_and_written(rt: HostRuntime) -> Result<(), Trouble> {
-    let copy = copied(rt.alloc(), &ROW_TREE)?;
+    let tree = read(rt.alloc(), &ROW_TREE)?;
+    let copy = written(rt.alloc(), &tree)?;
     assert_eq!(rt; copy.as_slice(), ROW_TREE.as_slice());
     Ok(())
 }
@@ -131,5 +161,30 @@ fn records_out_of_order_are_refused(rt: HostRuntime) -> Result<(), Trouble> {
         Some(TreeFault::Order(1)),
         "of the same rank"
     );
+    Ok(())
+}
+
+#[test]
+fn merges_are_put_into_pair_order(rt: HostRuntime) -> Result<(), Trouble> {
+    let mut merges = row_merges(rt.alloc())?;
+    merges.reverse();
+    let sorted = in_order(rt.alloc(), merges)?;
+    let mut absorbed = [0; 3];
+    for (name, merge) in absorbed.iter_mut().zip(&sorted) {
+        *name = merge.absorbed;
+    }
+    assert_eq!(rt; absorbed, [3, 7, 5]);
+    Ok(())
+}
+
+#[test]
+fn names_are_followed_to_the_last(rt: HostRuntime) -> Result<(), Trouble> {
+    let dims = Dims::new(8, 1, 1)?;
+    let list = [1, 1, 3, 3, 5, 5, 7, 7].to_vec(rt.alloc())?;
+    assert!(rt; dims.voxels() == 8);
+    let mut labels = Labels::of(&dims, list);
+    let merges = row_merges(rt.alloc())?;
+    apply(rt.alloc(), &mut labels, &merges)?;
+    assert_eq!(rt; labels.list(), [1, 1, 1, 1, 1, 1, 1, 1].as_slice());
     Ok(())
 }
