@@ -8,17 +8,13 @@ use Rattle.agglo_model.specs.PairOrder.{Contact, Threshold, Before, Reaches, add
 use Rattle.agglo_model.specs.Contacts.{differ, are, lower_label, higher_label, between, InContact, renamed}
 use Rattle.agglo_model.specs.Greedy.{IsMutual}
 use Rattle.agglo_model.specs.MergeLaws.{IsDiamond}
+use Rattle.agglo_model.specs.Work.{IsFirstPartner}
 use Rattle.agglo_model.proofs.ContactEdges.{between-swap, InContact-swap, InContact-names, InContact-tie}
 use Rattle.agglo_model.proofs.Means.{before_asym}
 use Rattle.agglo_model.proofs.Renames.{new_name, joins-renamed, merges_contacts}
 use Rattle.agglo_model.proofs.Reducible.{not_in_contact-left, not_in_contact-right}
 
--- y is the first partner of x
-pub record IsFirstPartner (g : Grid) (labels : List ℕ) (x y : ℕ) : Type 0 where
-  pub touching : InContact g labels x y
-  pub first : (z : ℕ) → z ≢ y → InContact g labels x z
-      → Before (between g labels x y) (between g labels x z)
-
+-- the two names of a reciprocal pair are each other's first partners
 pub first_partner_of_a : {g : Grid} {t : Threshold} {labels : List ℕ} {a b : ℕ} → IsMutual g t labels a b
     → IsFirstPartner g labels a b
 first_partner_of_a pair = record { touching = pair.touching; first = pair.first_of_a }
@@ -62,10 +58,12 @@ InContact-absorbed g labels a b c ab pb touching =
     ∙ sym (joins-renamed g labels a b c b e pb)
     ∙ InContact-tie g (renamed labels a b) c b touching)
 
-count_cases : (m n : ℕ) → 0 < m + n → ((0 < m) × (0 < n)) ⊎ ((0 < m) × (0 < n → ⊥)) ⊎ ((0 < m → ⊥) × (0 < n))
+-- which of two contacts has edges, where they have some together
+pub count_cases : (m n : ℕ) → 0 < m + n → ((0 < m) × (0 < n)) ⊎ ((0 < m) × (0 < n → ⊥)) ⊎ ((0 < m → ⊥) × (0 < n))
 count_cases m n h = grind arith
 
-name_cases : (e a b : ℕ) → (e ≡ a) ⊎ (e ≡ b) ⊎ ((e ≢ a) × (e ≢ b))
+-- a name is the one, the other, or neither
+pub name_cases : (e a b : ℕ) → (e ≡ a) ⊎ (e ≡ b) ⊎ ((e ≢ a) × (e ≢ b))
 name_cases e a b = grind arith
 
 -- what comes before the contacts of c with a and with b comes before the one that they merge into

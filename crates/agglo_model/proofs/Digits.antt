@@ -1,5 +1,5 @@
 -- Numbers and the bytes that spell them, the lowest first.
-use Rattle.std.proofs.Common.{◌≡◌, ℕ, ◌+◌, ◌*◌, ◌/◌, ◌%◌, ◌<◌, ◌≤◌, ◌^◌, ◌∷◌, [], arith, ap, sym, refl, ◌∙◌}
+use Rattle.std.proofs.Common.{◌≡◌, ℕ, ◌+◌, ◌*◌, ◌/◌, ◌%◌, ◌<◌, ◌^◌, ◌∷◌, [], arith, ap, sym, refl, ◌∙◌}
 use Rattle.std.proofs.Math.Nat.{mod-add-div, add-mul-mod_self_left, div-div-eq-div-mul}
 use Rattle.std.proofs.lemmas.Nat.{div-mul-add}
 use Rattle.agglo_model.specs.LabelFile.{u32_bytes}

@@ -1,12 +1,12 @@
 -- The cells of nodes: their places in the grids of their levels, and the voxels that they hold.
-use Rattle.std.proofs.Common.{◌≡◌, ℕ, zero, suc, ◌+◌, ◌*◌, ◌-◌, ◌/◌, ◌%◌, ◌^◌, ◌<◌, ◌≤◌, ◌==◌, min, inl, inr, refl, ap, sym, ◌∙◌, subst, add-one, arith}
+use Rattle.std.proofs.Common.{◌≡◌, ℕ, suc, ◌+◌, ◌*◌, ◌-◌, ◌/◌, ◌<◌, ◌≤◌, ap, sym, ◌∙◌, subst, add-one, arith}
 use Rattle.std.specs.Int.{div_ceil}
 use Rattle.std.proofs.Math.Nat.{mul-le-mul}
 use Rattle.agglo_model.specs.Axes.{Axes, IsWithinLimits, IsPlace, voxel_count, voxel_at, coordinate}
-use Rattle.agglo_model.specs.Cutting.{Chunking, IsChunking, length_on, cell_length, cells_on, level_grid, cells_at, last_level, first_node, node_count, root, level_of, cell_place, cell_low, cell_high, node_at, leaf_of, node_above, children_on, children_grid, child_count, child}
-use Rattle.agglo_model.proofs.Places.{voxel_at-lt, place-voxel, coordinate-voxel_at_x, coordinate-voxel_at_y, coordinate-voxel_at_z}
+use Rattle.agglo_model.specs.Cutting.{Chunking, IsChunking, length_on, cell_length, cells_on, level_grid, cells_at, last_level, first_node, node_count, root, level_of, cell_place, leaf_of}
+use Rattle.agglo_model.proofs.Places.{voxel_at-lt, place-voxel}
 use Rattle.agglo_model.proofs.Rounding.{div-lt-div_ceil, div_ceil-begins, div_ceil_pos, div_ceil_le}
-use Rattle.agglo_model.proofs.Levels.{IsOnLevel, on_level, level_of-is, level_grid_limits, cells_on-suc, cells_on_pos, cell_length_pos, cells_at-last, cells_at_pos, is_last_level, first_node_le}
+use Rattle.agglo_model.proofs.Levels.{IsOnLevel, on_level, level_of-is, level_grid_limits, cells_on-suc, cell_length_pos, cells_at-last, cells_at_pos, first_node_le}
 
 -- a node's number within its level is one of its cells
 pub index-lt : (t : Chunking) (m : ℕ) → m < node_count t → m - first_node t (level_of t m) < cells_at t (level_of t m)

@@ -1,10 +1,10 @@
 -- Quotients rounded up: how many cells of one length cover an axis.
-use Rattle.std.proofs.Common.{◌≡◌, ◌⊎◌, ℕ, suc, ◌+◌, ◌*◌, ◌-◌, ◌/◌, ◌%◌, ◌<◌, ◌≤◌, inl, inr, refl, ap, sym, ◌∙◌, subst, arith}
+use Rattle.std.proofs.Common.{◌≡◌, ℕ, suc, ◌+◌, ◌*◌, ◌-◌, ◌/◌, ◌%◌, ◌<◌, ◌≤◌, inl, inr, ap, sym, ◌∙◌, arith}
 use Rattle.std.specs.Int.{div_ceil}
 use Rattle.std.proofs.lemmas.Bool.{cases_order}
 use Rattle.std.proofs.lemmas.Grind.{div_ceil_times}
 use Rattle.std.proofs.lemmas.Nat.{div-add-mod'}
-use Rattle.std.proofs.Math.Nat.{mod-lt, mul-le-mul_right, div-div-eq-div-mul, div-lt_iff_lt-mul, div-mul-le_self}
+use Rattle.std.proofs.Math.Nat.{mod-lt, mul-le-mul_right, div-div-eq-div-mul, div-lt_iff_lt-mul}
 
 -- two multiples of l that are both the least from n on have the same quotient
 same_multiple : (n l x y : ℕ) → n ≤ x * l → x * l < n + l → n ≤ y * l → y * l < n + l → x ≡ y

@@ -1,6 +1,5 @@
 -- Small volumes cut into chunks.
-use Rattle.std.specs.Prelude.{ℕ, List, [], ◌∷◌}
-use Rattle.agglo_model.specs.Axes.{Axes}
+use Rattle.std.specs.Prelude.{ℕ, [], ◌∷◌}
 use Rattle.agglo_model.specs.Cutting.{Chunking, chunking}
 
 -- a row of voxels cut into leaves of one length

@@ -1,5 +1,5 @@
 -- What holds of every volume that is cut into chunks.
-use Rattle.std.specs.Prelude.{◌≡◌, ℕ, suc, ◌<◌}
+use Rattle.std.specs.Prelude.{◌≡◌, ℕ, suc}
 use Rattle.std.specs.Int.{div_ceil}
 use Rattle.agglo_model.specs.Cutting.{Chunking, IsChunking, cells_on}
 

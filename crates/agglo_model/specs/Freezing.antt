@@ -1,9 +1,9 @@
 -- Names in the cell of a node, and those that wait there for a decision of a node above.
-use Rattle.std.specs.Prelude.{◌≡◌, ℕ, ◌+◌, ◌==◌, nat_lt, Bool, ◌&&◌, IsTrue, List}
+use Rattle.std.specs.Prelude.{ℕ, ◌+◌, ◌==◌, nat_lt, Bool, ◌&&◌, IsTrue, List}
 use Rattle.std.specs.List.{list_any, range_with_len}
 use Rattle.agglo_model.specs.Axes.{voxel_count, coordinate, lower_end, higher_end}
 use Rattle.agglo_model.specs.Basins.{label_of}
-use Rattle.agglo_model.specs.Cutting.{Chunking, length_on, level_of, node_at, cell_low, cell_high, is_low_artificial, is_high_artificial, face_bits, IsAtFace}
+use Rattle.agglo_model.specs.Cutting.{Chunking, level_of, node_at, cell_low, cell_high, is_low_artificial, is_high_artificial, face_bits, IsAtFace}
 
 -- voxel v lies in the cell of node m
 abbrev pub is_held : Chunking → ℕ → ℕ → Bool

@@ -1,6 +1,6 @@
 -- Why work on chunks gives the answer of the whole volume: what holds of connected labels, of frozen names,
 -- and of the works of all nodes.
-use Rattle.std.specs.Prelude.{◌≡◌, ◌≢◌, ℕ, ◌+◌, ◌<◌, ◌↔◌, ◌⊎◌, true, IsTrue, List, Some, Contains}
+use Rattle.std.specs.Prelude.{◌≡◌, ◌≢◌, ℕ, ◌<◌, ◌↔◌, true, IsTrue, List, Some, Contains}
 use Rattle.agglo_model.specs.Axes.{voxel_count}
 use Rattle.agglo_model.specs.Cell.{IsInBox}
 use Rattle.agglo_model.specs.Grid.{Grid}
@@ -12,7 +12,7 @@ use Rattle.agglo_model.specs.MergeLaws.{SameOutcome}
 use Rattle.agglo_model.specs.Connected.{AreConnected}
 use Rattle.agglo_model.specs.Cutting.{Chunking, IsChunking, node_count, cells_at, parent, low_corner, high_corner}
 use Rattle.agglo_model.specs.Freezing.{is_held, is_inside, occurs_in, IsFrozen}
-use Rattle.agglo_model.specs.Work.{IsFree, IsWork, IsOrderedWork, AreWorks, work_of, labels_before, labels_after, IsPassed, FirstPairReaches, IsFirstPartner, all_merges}
+use Rattle.agglo_model.specs.Work.{IsFree, IsWork, IsOrderedWork, AreWorks, work_of, labels_before, labels_after, IsPassed, IsFirstPartner, all_merges}
 
 -- the cell of a node, as a box
 abbrev pub CellsAreBoxes : Type 0

@@ -1,10 +1,10 @@
 -- What the nodes of a cut volume do: each merges the reciprocal pairs that it may decide on.
-use Rattle.std.specs.Prelude.{◌≡◌, ◌≢◌, ℕ, suc, ◌+◌, ◌⊎◌, IsTrue, List, [], ◌∷◌, ◌++◌, length, take, sum_by, slice_index_or}
-use Rattle.std.specs.List.{flat_map, range_with_len}
+use Rattle.std.specs.Prelude.{◌≡◌, ◌≢◌, ℕ, suc, ◌+◌, ◌⊎◌, IsTrue, List, [], ◌∷◌, length, take, slice_index_or}
+use Rattle.std.specs.List.{flat_map}
 use Rattle.agglo_model.specs.Grid.{Grid}
 use Rattle.agglo_model.specs.PairOrder.{Threshold, Before, Reaches}
 use Rattle.agglo_model.specs.Contacts.{between, InContact}
-use Rattle.agglo_model.specs.Greedy.{Merge, IsMutual, IsMutualStep, after_merge, after_merges}
+use Rattle.agglo_model.specs.Greedy.{Merge, IsMutual, after_merge, after_merges}
 use Rattle.agglo_model.specs.Cutting.{Chunking, node_count}
 use Rattle.agglo_model.specs.Freezing.{occurs_in, IsFrozen}
 

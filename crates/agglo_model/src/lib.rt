@@ -11,6 +11,7 @@ pub mod laws_of_cutting;
 pub mod laws_of_files;
 pub mod laws_of_means;
 pub mod laws_of_merging;
+pub mod laws_of_nodes;
 
 use std::alloc::{AllocError, AllocFailed};
 

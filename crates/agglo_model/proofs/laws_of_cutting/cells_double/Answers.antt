@@ -1,5 +1,4 @@
 use Rattle.agglo_model.proofs.Levels.{cells_on-suc}
-use Rattle.agglo_model.proofs.NodeCells.{level_of-root}
 use Rattle.agglo_model.proofs.laws_of_cutting.cells_double.Goals as goal
 
 pub returns : goal.returns

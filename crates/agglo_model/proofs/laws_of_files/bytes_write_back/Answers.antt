@@ -1,4 +1,4 @@
-use Rattle.std.proofs.Common.{◌≡◌, ℕ, ◌∷◌, [], List, All, ◌<◌, lit<}
+use Rattle.std.proofs.Common.{lit<}
 use Rattle.agglo_model.proofs.Digits.{four_bytes, eight_bytes}
 use Rattle.agglo_model.proofs.laws_of_files.bytes_write_back.Goals as goal
 
