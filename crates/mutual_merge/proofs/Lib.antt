@@ -1,0 +1,3 @@
+pub mod RegionPlaces
+pub mod LinkedEdges
+pub mod FirstContacts
