@@ -1,3 +1,4 @@
 pub mod RegionPlaces
 pub mod LinkedEdges
 pub mod FirstContacts
+pub mod Pairing

@@ -37,6 +37,11 @@ pub record AreMates (mates : List ℕ) (l : Link) : Type 0 where
   pub of_a : slice_index mates l.a ≡ l.b
   pub of_b : slice_index mates l.b ≡ l.a
 
+-- neither region of a link has a mate: it is its own
+pub record AreSingle (mates : List ℕ) (l : Link) : Type 0 where
+  pub a_single : slice_index mates l.a ≡ l.a
+  pub b_single : slice_index mates l.b ≡ l.b
+
 -- the region is in one of the pairs
 abbrev pub IsPaired : List Link → ℕ → Type 0
 IsPaired pairs k = (l : Link) × Contains pairs l × IsAtPlace k l

@@ -1,7 +1,7 @@
-ghost use Rattle.std.specs.Prelude.{◌≡◌, ◌<◌, ◌≤◌, ◌^◌, ◌↔◌, ◌++◌, All, IfOk, IsTrue, bit_and, length, map};
+ghost use Rattle.std.specs.Prelude.{◌≡◌, ◌≤◌, ◌^◌, ◌↔◌, ◌++◌, All, IfOk, IsTrue, bit_and, length, map, slice_set};
 ghost use Rattle.std.specs.List.{range_with_len};
 ghost use Rattle.mutual_merge.specs.Linked.{AreLinked, IsLink};
-ghost use Rattle.mutual_merge.specs.Pairs.{IsPairing, IsReciprocalBy, merge_of};
+ghost use Rattle.mutual_merge.specs.Pairs.{AreSingle, IsPairing, IsReciprocalBy, merge_of};
 
 use crate::firsts::{first_contacts, is_not_earlier};
 use crate::links::{Link, name_of};
@@ -34,13 +34,9 @@ pub fn pair_up(
     let mut mates = places(alloc, regions.len())?;
     let mut pairs = Vec::new(alloc);
     for link in links {
-        let a = link.a as usize;
-        let b = link.b as usize;
-        let single = mates[a] == link.a && mates[b] == link.b;
-        if single && is_reciprocal(link, regions, &firsts, threshold, frozen) {
-            mates[a] = link.b;
-            mates[b] = link.a;
+        if can_pair(link, &mates, regions, &firsts, threshold, frozen) {
             pairs.push(*link)?;
+            mate(&mut mates, link);
         }
     }
     Ok(Pairing { mates, pairs })
@@ -55,6 +51,41 @@ fn places(alloc: Global, count: usize) -> Result<Vec<u32>, Memory>
     Ok(places)
 }
 
+/// Makes the two regions of a link mates.
+fn mate(mates: &mut [u32], link: &Link)
+    requires { IsLink (length mates.old) link.now }
+    ensures { mates.new ≡ slice_set (slice_set mates.old link.now.a link.now.b) link.now.b link.now.a }
+{
+    mates[link.a as usize] = link.b;
+    mates[link.b as usize] = link.a;
+}
+
+/// Whether the pair of a link is reciprocal, and neither of its regions has a mate.
+fn can_pair(
+    link: &Link,
+    mates: &[u32],
+    regions: &[Region],
+    firsts: &[Option<Contact>],
+    threshold: &Threshold,
+    frozen: u8,
+) -> bool
+    requires link { IsLink (length regions.now) link.now }
+    requires mates { length mates.now ≡ length regions.now }
+    requires firsts { length firsts.now ≡ length regions.now }
+    ensures { IsTrue result ↔ (AreSingle mates.now link.now
+        × IsReciprocalBy threshold.now frozen regions.now firsts.now link.now) }
+{
+    is_reciprocal(link, regions, firsts, threshold, frozen) && are_single(mates, link)
+}
+
+/// Whether neither region of a link has a mate.
+fn are_single(mates: &[u32], link: &Link) -> bool
+    requires { IsLink (length mates.now) link.now }
+    ensures { IsTrue result ↔ AreSingle mates.now link.now }
+{
+    mates[link.a as usize] == link.a && mates[link.b as usize] == link.b
+}
+
 /// Whether the pair of a link is reciprocal, by the first contacts at each region.
 fn is_reciprocal(
     link: &Link,
@@ -63,9 +94,8 @@ fn is_reciprocal(
     threshold: &Threshold,
     frozen: u8,
 ) -> bool
-    requires a_in { link.now.a < length regions.now }
-    requires b_in { link.now.b < length regions.now }
-    requires one_each { length firsts.now ≡ length regions.now }
+    requires link { IsLink (length regions.now) link.now }
+    requires firsts { length firsts.now ≡ length regions.now }
     ensures { IsTrue result ↔ IsReciprocalBy threshold.now frozen regions.now firsts.now link.now }
 {
     let a = link.a as usize;
