@@ -242,3 +242,66 @@ joint-permutation past p es fs moved =
     (joint-counts past p fs ∙ sum_by-IsPermutation (λ e. cond (p e) e.contact.count 0) es fs moved
     ∙ sym (joint-counts past p es))
     (omega (arith, down, up))
+
+pub contact_in-append : (past x y : ℕ) (es fs : List GraphEdge)
+    → contact_in past (es ++ fs) x y ≡ added (contact_in past es x y) (contact_in past fs x y)
+contact_in-append past x y es fs =
+    contact_in-is past x y (es ++ fs) ∙ joint-append past (is_between x y) es fs
+    ∙ (λ i. added (sym (contact_in-is past x y es) i) (sym (contact_in-is past x y fs) i))
+
+pub contact_in-tie-le : (past x y : ℕ) (es : List GraphEdge) → (contact_in past es x y).tie ≤ past
+contact_in-tie-le past x y es =
+    subst (λ c. c.tie ≤ past) (sym (contact_in-is past x y es)) (joint-tie-le past (is_between x y) es)
+
+-- an edge alone
+alone : ℕ → Bool → Contact → Contact
+alone past b c = cond b (added c (no_contact past)) (no_contact past)
+
+contact_in-alone : (past x y : ℕ) (e : GraphEdge) → contact_in past (e ∷ []) x y ≡ alone past (is_between x y e) e.contact
+unfolding joint alone
+contact_in-alone past x y e = contact_in-is past x y (e ∷ [])
+
+alone-none : (past : ℕ) (b : Bool) (c : Contact) → b ≡ false → alone past b c ≡ no_contact past
+unfolding alone
+alone-none past true c other = absurd (false≢true (sym other))
+alone-none past false c other = refl
+
+alone-added : (past : ℕ) (b : Bool) (c d : Contact) → alone past b (added c d) ≡ added (alone past b c) (alone past b d)
+unfolding alone
+alone-added past true c d =
+    same_contact (added (added c d) (no_contact past)) (added (added c (no_contact past)) (added d (no_contact past)))
+    (omega arith) (omega arith) (omega arith)
+alone-added past false c d = none_or past
+
+-- an edge that is not between the names adds nothing
+pub contact_in-other : (past x y : ℕ) (es : List GraphEdge) (e : GraphEdge) → is_between x y e ≡ false
+    → contact_in past (es ++ e ∷ []) x y ≡ contact_in past es x y
+contact_in-other past x y es e other =
+    contact_in-append past x y es (e ∷ [])
+    ∙ ap (added (contact_in past es x y)) (contact_in-alone past x y e ∙ alone-none past (is_between x y e) e.contact other)
+    ∙ added-none past (contact_in past es x y) (contact_in-tie-le past x y es)
+
+-- two lists that go on with edges that are between the names alike
+pub contact_in-alike : (past x y : ℕ) (es fs : List GraphEdge) (e f : GraphEdge) → is_between x y e ≡ is_between x y f
+    → e.contact ≡ f.contact → contact_in past es x y ≡ contact_in past fs x y
+    → contact_in past (es ++ e ∷ []) x y ≡ contact_in past (fs ++ f ∷ []) x y
+contact_in-alike past x y es fs e f alike same rest =
+    contact_in-append past x y es (e ∷ [])
+    ∙ (λ i. added (rest i) ((contact_in-alone past x y e ∙ (λ j. alone past (alike j) (same j)) ∙ sym (contact_in-alone past x y f)) i))
+    ∙ sym (contact_in-append past x y fs (f ∷ []))
+
+-- an edge that takes another between the same names
+pub contact_in-taken : (past x y : ℕ) (es : List GraphEdge) (e f both : GraphEdge) → is_between x y both ≡ is_between x y e
+    → is_between x y f ≡ is_between x y e → both.contact ≡ added e.contact f.contact
+    → contact_in past (es ++ both ∷ []) x y ≡ contact_in past ((es ++ e ∷ []) ++ f ∷ []) x y
+contact_in-taken past x y es e f both alike alike' sum =
+    let t = is_between x y e in
+    let of_f : alone past t f.contact ≡ contact_in past (f ∷ []) x y =
+    (λ j. alone past (sym alike' j) f.contact) ∙ sym (contact_in-alone past x y f) in
+    contact_in-append past x y es (both ∷ [])
+    ∙ ap (added (contact_in past es x y))
+    (contact_in-alone past x y both ∙ (λ i. alone past (alike i) (sum i)) ∙ alone-added past t e.contact f.contact)
+    ∙ sym (added_assoc (contact_in past es x y) (alone past t e.contact) (alone past t f.contact))
+    ∙ (λ i. added (added (contact_in past es x y) (sym (contact_in-alone past x y e) i)) (of_f i))
+    ∙ (λ i. added (sym (contact_in-append past x y es (e ∷ [])) i) (contact_in past (f ∷ []) x y))
+    ∙ sym (contact_in-append past x y (es ++ e ∷ []) (f ∷ []))

@@ -2,3 +2,6 @@ pub mod RegionPlaces
 pub mod LinkedEdges
 pub mod FirstContacts
 pub mod Pairing
+pub mod Survival
+pub mod MovedLinks
+pub mod JoinedLinks

@@ -1,4 +1,4 @@
-ghost use Rattle.std.specs.Prelude.{◌≡◌, ◌+◌, ◌≤◌, ◌^◌, All, AllPairs, IfOk, length};
+ghost use Rattle.std.specs.Prelude.{◌≡◌, ◌+◌, ◌≤◌, ◌^◌, All, AllPairs, IfOk, bit_or, length};
 ghost use Rattle.agglo_model.specs.PairOrder.{most_edges};
 ghost use Rattle.mutual_merge.specs.Linked.{AreLinked, Ascend, IsLink, link_edges};
 ghost use Rattle.mutual_merge.specs.Merged.{
@@ -39,7 +39,7 @@ pub fn merge_mates(
     mates: &[u32],
 ) -> Result<LinkedGraph, Memory>
     requires linked { AreLinked regions.now links.now }
-    requires mutual { AreMutual mates.now (length regions.now) }
+    requires back { AreMutual mates.now (length regions.now) }
     ensures { IfOk result (λ merged. AreMerged regions.now links.now mates.now merged.regions.items merged.links.items) }
 {
     let survivors = keep_survivors(alloc, regions, mates)?;
@@ -56,7 +56,7 @@ pub fn merge_mates(
 fn keep_survivors(alloc: Global, regions: &[Region], mates: &[u32]) -> Result<Survivors, Memory>
     requires ascend { Ascend regions.now }
     requires fit { length regions.now ≤ 2 ^ 32 }
-    requires mutual { AreMutual mates.now (length regions.now) }
+    requires back { AreMutual mates.now (length regions.now) }
     ensures { IfOk result (λ survivors. AreSurvivors regions.now mates.now survivors.kept.items survivors.places.items) }
 {
     let mut kept = Vec::new(alloc);
@@ -66,15 +66,21 @@ fn keep_survivors(alloc: Global, regions: &[Region], mates: &[u32]) -> Result<Su
         if mate < k {
             places.push(places[mate])?;
         } else {
-            let other = &regions[mate];
             places.push(kept.len() as u32)?;
-            kept.push(Region {
-                name: region.name,
-                faces: region.faces | other.faces,
-            })?;
+            kept.push(join_regions(region, &regions[mate]))?;
         }
     }
     Ok(Survivors { kept, places })
+}
+
+/// The region of two mates: the name of the first, and the faces of both.
+fn join_regions(first: &Region, second: &Region) -> Region
+    ensures { result ≡ record { name = first.now.name; faces = bit_or first.now.faces second.now.faces } }
+{
+    Region {
+        name: first.name,
+        faces: first.faces | second.faces,
+    }
 }
 
 /// The links between the survivors. Links between mates are left out.
@@ -101,7 +107,9 @@ fn move_links(alloc: Global, links: &[Link], places: &[u32]) -> Result<Vec<Link>
 fn key(link: &Link) -> u64
     ensures { result ≡ key_of link.now }
 {
-    u64::from(link.a) * 4_294_967_296 + u64::from(link.b)
+    let a = link.a;
+    let b = link.b;
+    u64::from(a) * 4_294_967_296 + u64::from(b)
 }
 
 /// Adds up the contacts of links between the same two regions, which stand beside each other.

@@ -1,0 +1,1 @@
+-- Links between the same regions added up.
