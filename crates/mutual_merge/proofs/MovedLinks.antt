@@ -36,7 +36,7 @@ apart_test p q x y same xy = grind (arith, nat_tests)
 turned_test : (p q x y : ℕ) → are p q x y ≡ are q p x y
 turned_test p q x y = grind (arith, nat_tests)
 
-pushed : (name : ℕ → ℕ) (ls : List Link) (l : Link) (past x y : ℕ)
+pub pushed : (name : ℕ → ℕ) (ls : List Link) (l : Link) (past x y : ℕ)
     → contact_in past (edges_by name (ls ++ l ∷ [])) x y ≡ contact_in past (edges_by name ls ++ edge_by name l ∷ []) x y
 pushed name ls l past x y = ap (λ es. contact_in past es x y) (map_push (edge_by name) ls l)
 
