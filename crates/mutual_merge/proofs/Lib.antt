@@ -5,3 +5,4 @@ pub mod Pairing
 pub mod Survival
 pub mod MovedLinks
 pub mod JoinedLinks
+pub mod MergedMates
