@@ -6,3 +6,4 @@ pub mod Survival
 pub mod MovedLinks
 pub mod JoinedLinks
 pub mod MergedMates
+pub mod PairRounds
