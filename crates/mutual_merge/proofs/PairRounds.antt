@@ -3,7 +3,7 @@ use Rattle.std.proofs.Common.{◌≡◌, ◌≢◌, ◌⊎◌, inl, inr, ℕ, �
 use Rattle.std.specs.Prelude.{◌↔◌, map, Contains, All, AllPairs, bit_and, bit_or}
 use Rattle.std.specs.Int.Bits.{or_self}
 use Rattle.std.proofs.lemmas.Bool.Decides.{nat_tests}
-use Rattle.std.proofs.lemmas.List.{get_or-map, length-map}
+use Rattle.std.proofs.lemmas.List.{get_or-map, length-map, nil_from_length}
 use Rattle.std.proofs.lemmas.List.Elements.{All-contains, All-get_or, Contains-get_or}
 use Rattle.agglo_model.specs.PairOrder.{Threshold, Contact, Before}
 use Rattle.agglo_model.specs.Greedy.{Merge}
@@ -12,7 +12,7 @@ use Rattle.agglo_model.specs.Settling.{IsFreeIn, IsReciprocalEdge, HasBothFaces,
 use Rattle.agglo_model.proofs.Members.{contains_head, contains_tail, contains_cases, contains_none, all_pairs_head, all_pairs_tail, All-from_contains, Contains-map, Contains-unmap}
 use Rattle.agglo_model.proofs.RegionLists.{one_region}
 use Rattle.agglo_model.proofs.GraphFirsts.{IsFirstAt}
-use Rattle.agglo_model.proofs.GraphRounds.{IsRound, IsGraphAfterAll, IsRegionAfter, IsInNone, ShareNone, edges_after}
+use Rattle.agglo_model.proofs.GraphRounds.{Leads, round_leads, IsRound, IsGraphAfterAll, IsRegionAfter, IsInNone, ShareNone, edges_after}
 use Rattle.mutual_merge.specs.declared.links.Link.{Link}
 use Rattle.mutual_merge.specs.Linked.{AreLinked, IsLink, IsAtPlace, LinkBefore, region_at, name_at, faces_at, edge_by, edges_by, graph_of}
 use Rattle.mutual_merge.specs.Firsts.{NoneBefore}
@@ -421,3 +421,32 @@ module _ (t : Threshold) (faces : ℕ) (regions : List Region) (links : List Lin
             ∙ sym (edges_after-is (map (merge_of regions) pairs) (name_at regions) links));
       };
     }
+
+-- where there are pairs, their merges lead on, and regions get fewer
+pub pairs_lead : (t : Threshold) (faces : ℕ) (regions : List Region) (links : List Link) (mates : List ℕ) (pairs : List Link)
+    (kept : List Region) (joined : List Link) → AreLinked regions links → IsPairing t faces regions links mates pairs
+    → AreMerged regions links mates kept joined → 0 < length pairs
+    → Leads t faces (graph_of regions links) (map (merge_of regions) pairs) (graph_of kept joined)
+pairs_lead t faces regions links mates [] kept joined linked pairing merged some = absurd (omega arith)
+pairs_lead t faces regions links mates (p ∷ pairs) kept joined linked pairing merged some =
+    round_leads t faces (graph_of regions links) (merge_of regions p) (map (merge_of regions) pairs) (graph_of kept joined)
+    (pairs_are_round t faces regions links mates (p ∷ pairs) linked pairing kept joined merged)
+
+pub fewer_regions : (t : Threshold) (faces : ℕ) (regions : List Region) (links : List Link) (mates : List ℕ) (pairs : List Link)
+    (kept : List Region) (joined : List Link) → AreLinked regions links → IsPairing t faces regions links mates pairs
+    → AreMerged regions links mates kept joined → 0 < length pairs → length kept < length regions
+fewer_regions t faces regions links mates [] kept joined linked pairing merged some = absurd (omega arith)
+fewer_regions t faces regions links mates (p ∷ pairs) kept joined linked pairing merged some =
+    let inside = contains_head p pairs in
+    let is = is_link regions links linked p (All-contains (IsReciprocalLink t faces regions links) (p ∷ pairs) p pairing.reciprocal inside).there in
+    let up = is.ordered in
+    let mate = (All-contains (AreMates mates) (p ∷ pairs) p pairing.mated inside).of_b in
+    merged.survivors.fewer p.b is.inside (omega arith)
+
+-- where there is none, no edge is reciprocal
+pub none_reciprocal : (t : Threshold) (faces : ℕ) (regions : List Region) (links : List Link) (mates : List ℕ) (pairs : List Link)
+    → AreLinked regions links → IsPairing t faces regions links mates pairs → length pairs ≡ 0
+    → (e : GraphEdge) → ¬ (IsReciprocalEdge t faces (graph_of regions links) e)
+none_reciprocal t faces regions links mates pairs linked pairing none e pair =
+    let found = reciprocal_link regions links linked t faces e pair in
+    pairing.complete (nil_from_length pairs none) found.0 found.1
