@@ -7,3 +7,4 @@ pub mod MovedLinks
 pub mod JoinedLinks
 pub mod MergedMates
 pub mod PairRounds
+pub mod KeptRegions

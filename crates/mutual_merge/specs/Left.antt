@@ -12,10 +12,24 @@ use Rattle.mutual_merge.specs.Linked.{AreLinked, IsAtPlace, region_at, faces_at,
 abbrev pub is_kept : List Bool → ℕ → Bool
 is_kept kept k = slice_index_or kept k false
 
+-- held says which regions are held back
+pub record AreHeldBack (faces : ℕ) (regions : List Region) (held : List Bool) : Type 0 where
+  pub one_each : length held ≡ length regions
+  pub each : (k : ℕ) → k < length regions → IsTrue (is_kept held k) ↔ (bit_and (faces_at regions k) faces ≢ 0)
+
+-- a link at the place reaches the threshold
+abbrev pub HasReaching : Threshold → List Link → ℕ → Type 0
+HasReaching t links k = (l : Link) × Contains links l × IsAtPlace k l × Reaches t l.contact
+
+-- besides those from before, the regions of links that reach the threshold are kept
+pub record KeepsReaching (t : Threshold) (links : List Link) (old new : List Bool) : Type 0 where
+  pub one_each : length new ≡ length old
+  pub each : (k : ℕ) → k < length old → IsTrue (is_kept new k) ↔ (IsTrue (is_kept old k) ⊎ HasReaching t links k)
+
 -- the region at a place is held back, or one of its links reaches the threshold
 abbrev pub IsLeftAt : Threshold → ℕ → List Region → List Link → ℕ → Type 0
 IsLeftAt t faces regions links k = (bit_and (faces_at regions k) faces ≢ 0)
-    ⊎ ((l : Link) × Contains links l × IsAtPlace k l × Reaches t l.contact)
+    ⊎ HasReaching t links k
 
 -- kept is what is left
 pub record AreLeft (t : Threshold) (faces : ℕ) (regions : List Region) (links : List Link) (kept : List Bool) : Type 0 where

@@ -1,7 +1,7 @@
 ghost use Rattle.std.specs.Prelude.{◌≡◌, All, IfOk, length};
 ghost use Rattle.agglo_model.specs.Settling.{IsLeftOf};
 ghost use Rattle.mutual_merge.specs.Linked.{AreLinked, IsLink, graph_of};
-ghost use Rattle.mutual_merge.specs.Left.{AreLeft, kept_edges, kept_regions};
+ghost use Rattle.mutual_merge.specs.Left.{AreHeldBack, AreLeft, KeepsReaching, kept_edges, kept_regions};
 
 use crate::links::{Link, name_of};
 use crate::merging::LinkedGraph;
@@ -40,17 +40,33 @@ fn choose(
     requires { All (IsLink (length regions.now)) links.now }
     ensures { IfOk result (λ kept. AreLeft threshold.now frozen regions.now links.now kept.items) }
 {
-    let mut kept = Vec::with_capacity(alloc, regions.len())?;
+    let mut kept = hold_back(alloc, regions, frozen)?;
+    keep_reaching(&mut kept, links, threshold);
+    Ok(kept)
+}
+
+/// Whether each region is held back.
+fn hold_back(alloc: Global, regions: &[Region], frozen: u8) -> Result<Vec<bool>, Memory>
+    ensures { IfOk result (λ held. AreHeldBack frozen regions.now held.items) }
+{
+    let mut held = Vec::with_capacity(alloc, regions.len())?;
     for region in regions {
-        kept.push(!is_free(region, frozen))?;
+        held.push(!is_free(region, frozen))?;
     }
+    Ok(held)
+}
+
+/// Keeps the regions of links that reach the threshold too.
+fn keep_reaching(kept: &mut [bool], links: &[Link], threshold: &Threshold)
+    requires { All (IsLink (length kept.old)) links.now }
+    ensures { KeepsReaching threshold.now links.now kept.old kept.new }
+{
     for link in links {
         if threshold.reaches(&link.contact) {
             kept[link.a as usize] = true;
             kept[link.b as usize] = true;
         }
     }
-    Ok(kept)
 }
 
 /// The edges between regions that are kept.
