@@ -1,9 +1,11 @@
 -- Which regions are left, and the graph of those.
-use Rattle.std.proofs.Common.{◌≡◌, ◌≢◌, ◌⊎◌, inl, inr, ℕ, ◌+◌, ◌<◌, ◌≤◌, Bool, true, false, not, List, [], ◌∷◌, ◌++◌, length, get_or, set, take, refl, sym, ap, ◌∙◌, subst, arith}
-use Rattle.std.specs.Prelude.{◌↔◌, IsTrue, Contains, All, bit_and}
+use Rattle.std.proofs.Common.{◌≡◌, ◌≢◌, ◌⊎◌, inl, inr, ℕ, ◌+◌, ◌<◌, ◌≤◌, Bool, true, false, cond, List, [], ◌∷◌, ◌++◌, length, get_or, set, take, refl, sym, ap, ◌∙◌, subst, arith}
+use Rattle.std.specs.Prelude.{◌↔◌, IsTrue, Contains, All, bit_and, map, filter}
+use Rattle.std.specs.List.{range_with_len}
 use Rattle.std.proofs.lemmas.Bool.{false≢true}
-use Rattle.std.proofs.lemmas.List.{take_more, get_or_read, get_or_append_left, get_or_push, length_push, length-set, get_or-set_same, get_or-set_other}
-use Rattle.std.proofs.lemmas.List.Elements.{All-get_or, Contains-push, Contains-push_cases, Contains-append_left}
+use Rattle.std.proofs.lemmas.List.FromFn.{map-range_with_len_more}
+use Rattle.std.proofs.lemmas.List.{append-nil, map-id, map-append, take_more, get_or_read, get_or_append_left, get_or_push, length_push, length-set, get_or-set_same, get_or-set_other}
+use Rattle.std.proofs.lemmas.List.Elements.{filter-append, All-get_or, Contains-push, Contains-push_cases, Contains-append_left}
 use Rattle.agglo_model.specs.PairOrder.{Threshold, Reaches}
 use Rattle.agglo_model.specs.RegionGraph.{Region}
 use Rattle.mutual_merge.specs.declared.links.Link.{Link}
@@ -90,3 +92,38 @@ AreLeft-from t faces regions links held kept are_held keeps = record {
         λ left. elim left [ inl here ↦ all.1 (inl (own.1 here)) | inr reaching ↦ all.1 (inr reaching) ],
       );
 }
+
+-- the numbers up to i
+range_more : (i : ℕ) → range_with_len 0 (i + 1) ≡ range_with_len 0 i ++ i ∷ []
+range_more i =
+    sym (map-id (range_with_len 0 (i + 1))) ∙ map-range_with_len_more (λ x. x) 0 i i (omega arith)
+    ∙ ap (λ xs. xs ++ i ∷ []) (map-id (range_with_len 0 i))
+
+-- the regions that are kept of one more place
+kept_upto-more : (regions : List Region) (kept : List Bool) (i : ℕ)
+    → map (region_at regions) (filter (is_kept kept) (range_with_len 0 (i + 1)))
+    ≡ map (region_at regions) (filter (is_kept kept) (range_with_len 0 i)) ++ cond (is_kept kept i) (region_at regions i ∷ []) []
+kept_upto-more regions kept i =
+    ap (λ xs. map (region_at regions) (filter (is_kept kept) xs)) (range_more i)
+    ∙ ap (map (region_at regions)) (filter-append (is_kept kept) (range_with_len 0 i) (i ∷ []))
+    ∙ map-append (region_at regions) (filter (is_kept kept) (range_with_len 0 i)) (filter (is_kept kept) (i ∷ []))
+    ∙ ap (λ xs. map (region_at regions) (filter (is_kept kept) (range_with_len 0 i)) ++ xs) (one (is_kept kept i))
+  where
+    one : (b : Bool) → map (region_at regions) (cond b (i ∷ []) []) ≡ cond b (region_at regions i ∷ []) []
+    one true = refl
+    one false = refl
+
+pub kept_upto-take : (regions : List Region) (kept : List Bool) (i : ℕ) → is_kept kept i ≡ true
+    → map (region_at regions) (filter (is_kept kept) (range_with_len 0 (i + 1)))
+    ≡ map (region_at regions) (filter (is_kept kept) (range_with_len 0 i)) ++ region_at regions i ∷ []
+kept_upto-take regions kept i pass =
+    kept_upto-more regions kept i
+    ∙ ap (λ b. map (region_at regions) (filter (is_kept kept) (range_with_len 0 i)) ++ cond b (region_at regions i ∷ []) []) pass
+
+pub kept_upto-skip : (regions : List Region) (kept : List Bool) (i : ℕ) → is_kept kept i ≡ false
+    → map (region_at regions) (filter (is_kept kept) (range_with_len 0 (i + 1)))
+    ≡ map (region_at regions) (filter (is_kept kept) (range_with_len 0 i))
+kept_upto-skip regions kept i fail =
+    kept_upto-more regions kept i
+    ∙ ap (λ b. map (region_at regions) (filter (is_kept kept) (range_with_len 0 i)) ++ cond b (region_at regions i ∷ []) []) fail
+    ∙ append-nil (map (region_at regions) (filter (is_kept kept) (range_with_len 0 i)))
