@@ -8,3 +8,4 @@ pub mod JoinedLinks
 pub mod MergedMates
 pub mod PairRounds
 pub mod KeptRegions
+pub mod LeftGraphs
