@@ -88,14 +88,19 @@ AreFirsts-more ls l n firsts one other are each is at_a at_b = record {
   where
     counts : HaveCounts ls
     counts m inside = (All-contains (IsLink n) ls m each inside).touching
+
     a_below : l.a < length firsts
     a_below = let len = are.one_each in let up = is.ordered in let low = is.inside in omega arith
+
     b_below : l.b < length (set firsts l.a one)
     b_below = let len = length-set firsts l.a one in let all = are.one_each in let low = is.inside in omega arith
+
     differ : l.a ≢ l.b
     differ = let up = is.ordered in λ e. omega arith
+
     at_other : IsEarlier (get_or firsts l.b None) l.contact other
     at_other = subst (λ o. IsEarlier o l.contact other) (get_or-set_other firsts l.a l.b one None (λ e. differ (sym e))) at_b
+
     by_cases : (k : ℕ) → k < n → (k ≡ l.a) ⊎ (k ≡ l.b) ⊎ ((l.a ≢ k) × (l.b ≢ k))
         → IsFirst (ls ++ l ∷ []) k (get_or (set (set firsts l.a one) l.b other) k None)
     by_cases k below (inl same) =

@@ -69,9 +69,10 @@ front_before front last ascend k d below =
     (ascend k (length front) d below (omega arith)))
 
 front_all : (P : Link → Type 0) (front : List Link) (last : Link) → All P (front ++ last ∷ []) → All P front × P last
-front_all P front last all =
-    (All-from_contains P front (λ l inside. All-contains P (front ++ last ∷ []) l all (Contains-append_left front (last ∷ []) l inside)),
-    All-contains P (front ++ last ∷ []) last all (Contains-push front last))
+front_all P front last all = (
+  All-from_contains P front (λ l inside. All-contains P (front ++ last ∷ []) l all (Contains-append_left front (last ∷ []) l inside)),
+  All-contains P (front ++ last ∷ []) last all (Contains-push front last),
+)
 
 -- the next link
 pub record AtNext (links : List Link) (i : ℕ) (l : Link) : Type 0 where
@@ -195,10 +196,13 @@ JoinedSoFar-join links i joined new l so_far at_l step = subst (JoinedSoFar link
   where
     front : List Link
     front = step.front
+
     last : Link
     last = step.last
+
     sum : Link
     sum = record last { contact = added last.contact l.contact }
+
     ascend : AllPairs LinkBefore (front ++ last ∷ [])
     ascend = subst (AllPairs LinkBefore) step.old_is so_far.ascend
 

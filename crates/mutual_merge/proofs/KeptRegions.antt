@@ -53,13 +53,17 @@ KeepsReaching-take t links old new l so_far is reaches = record {
   where
     b_in : l.b < length (set new l.a true)
     b_in = let len = length-set new l.a true in let own = so_far.one_each in let low = is.inside in omega arith
+
     a_in : l.a < length new
     a_in = let own = so_far.one_each in let up = is.ordered in let low = is.inside in omega arith
+
     b_kept : is_kept (ends_kept new l) l.b ≡ true
     b_kept = get_or-set_same (set new l.a true) l.b true false b_in
+
     a_kept : is_kept (ends_kept new l) l.a ≡ true
     a_kept = get_or-set_other (set new l.a true) l.b l.a true false (let up = is.ordered in λ e. omega arith)
         ∙ get_or-set_same new l.a true false a_in
+
     by_cases : (k : ℕ) → k < length old → (k ≡ l.a) ⊎ (k ≡ l.b) ⊎ ((l.a ≢ k) × (l.b ≢ k))
         → IsTrue (is_kept (ends_kept new l) k) ↔ (IsTrue (is_kept old k) ⊎ HasReaching t (links ++ l ∷ []) k)
     by_cases k below (inl same) =

@@ -57,8 +57,7 @@ and_of : (a b : Bool) → a ≡ true → b ≡ true → (a && b) ≡ true
 and_of a b one other = (λ i. one i && other i)
 
 module _ (t : Threshold) (faces : ℕ) (regions : List Region) (links : List Link) (kept : List Bool)
-  (linked : AreLinked regions links) (are_left : AreLeft t faces regions links kept) where
-
+    (linked : AreLinked regions links) (are_left : AreLeft t faces regions links kept) where
   link_in : (l : Link) → Contains links l → IsLink (length regions) l
   link_in l inside = All-contains (IsLink (length regions)) links l linked.links_are.each inside
 
@@ -151,8 +150,12 @@ module _ (t : Threshold) (faces : ℕ) (regions : List Region) (links : List Lin
   is_left : (k : ℕ) → k < length regions → IsLeftAt t faces regions links k → IsLeft t faces (graph_of regions links) (region_at regions k)
   is_left k below (inl held) = inl held
   is_left k below (inr (l, inside, at_k, reaches)) =
-      inr (edge_by (name_at regions) l, Contains-map (edge_by (name_at regions)) links l inside,
-      elim at_k [ inl a ↦ inl (ap (name_at regions) a) | inr b ↦ inr (ap (name_at regions) b) ], reaches)
+      inr (
+        edge_by (name_at regions) l,
+        Contains-map (edge_by (name_at regions)) links l inside,
+        elim at_k [ inl a ↦ inl (ap (name_at regions) a) | inr b ↦ inr (ap (name_at regions) b) ],
+        reaches,
+      )
 
   left_at : (k : ℕ) → k < length regions → IsLeft t faces (graph_of regions links) (region_at regions k) → IsLeftAt t faces regions links k
   left_at k below (inl held) = inl held
@@ -163,8 +166,12 @@ module _ (t : Threshold) (faces : ℕ) (regions : List Region) (links : List Lin
       same_place regions l.a k linked.regions_ascend (a_in l found.1) below (ap (λ z. z.a) found.2 ∙ same) in
       let place_b : e.b ≡ name_at regions k → l.b ≡ k = λ same.
       same_place regions l.b k linked.regions_ascend (link_in l found.1).inside below (ap (λ z. z.b) found.2 ∙ same) in
-      inr (l, found.1, elim at_r [ inl a ↦ inl (place_a a) | inr b ↦ inr (place_b b) ],
-      subst (λ z. Reaches t z.contact) (sym found.2) reaches)
+      inr (
+        l,
+        found.1,
+        elim at_r [ inl a ↦ inl (place_a a) | inr b ↦ inr (place_b b) ],
+        subst (λ z. Reaches t z.contact) (sym found.2) reaches,
+      )
 
   kept_name : (k x : ℕ) → k < length regions → name_at regions k ≡ x
       → HasRegion (record { regions = kept_regions regions kept; edges = kept_edges regions links kept }) x → is_kept kept k ≡ true
@@ -179,10 +186,11 @@ module _ (t : Threshold) (faces : ℕ) (regions : List Region) (links : List Lin
     regions = λ r. (
       λ inside.
           let place = kept_place r inside in
-          let there = Contains-get_or regions place.0 (record { name = 0; faces = 0 }) place.1 in
-          (subst (Contains regions) place.3 there,
-          subst (IsLeft t faces (graph_of regions links)) place.3
-          (is_left place.0 place.1 ((are_left.each place.0 place.1).0 place.2))),
+          let there = Contains-get_or regions place.0 (record { name = 0; faces = 0 }) place.1 in (
+            subst (Contains regions) place.3 there,
+            subst (IsLeft t faces (graph_of regions links)) place.3
+                (is_left place.0 place.1 ((are_left.each place.0 place.1).0 place.2)),
+          ),
       λ (inside, left).
           let place = region_place regions r inside in
           let here = left_at place.0 place.1 (subst (IsLeft t faces (graph_of regions links)) (sym place.2) left) in
@@ -191,9 +199,11 @@ module _ (t : Threshold) (faces : ℕ) (regions : List Region) (links : List Lin
     );
     edges = λ e. (
       λ inside.
-          let l = edge_link e inside in
-          (subst (Contains (edges_by (name_at regions) links)) l.4 (Contains-map (edge_by (name_at regions)) links l.0 l.1),
-          IsGraph-left.from_region e inside, IsGraph-left.to_region e inside),
+          let l = edge_link e inside in (
+            subst (Contains (edges_by (name_at regions) links)) l.4 (Contains-map (edge_by (name_at regions)) links l.0 l.1),
+            IsGraph-left.from_region e inside,
+            IsGraph-left.to_region e inside,
+          ),
       λ (inside, from, to).
           let found = link_of regions links linked e inside in
           let l = found.0 in

@@ -9,3 +9,4 @@ pub mod MergedMates
 pub mod PairRounds
 pub mod KeptRegions
 pub mod LeftGraphs
+pub mod SampleGraphs

@@ -86,6 +86,7 @@ AreMoved-take ls places moved l m p q so_far known differ is = record {
   where
     a_in : l.a < length places
     a_in = let up = known.is.ordered in let low = known.is.inside in omega arith
+
     alike : (name : ℕ → ℕ) (x y : ℕ) → ((min p q ≡ p) × (max p q ≡ q)) ⊎ ((min p q ≡ q) × (max p q ≡ p))
         → is_between x y (edge_by name m) ≡ is_between x y (edge_by (λ k. name (get_or places k 0)) l)
     alike name x y (inl (low, high)) =

@@ -122,15 +122,17 @@ module _ (regions : List Region) (links : List Link) (linked : AreLinked regions
   reciprocal_link t faces e pair =
       let found = link_of e pair.there in let l = found.0 in let is = is_link l found.1 in
       let up = is.ordered in let low = is.inside in
-      let own = subst (IsReciprocalEdge t faces (graph_of regions links)) (sym found.2) pair in
-      (l, record {
-        there = found.1;
-        a_free = free_place faces l.a (omega arith) own.a_free;
-        b_free = free_place faces l.b low own.b_free;
-        reaches = own.reaches;
-        first_of_a = none_before l.a l.contact own.first_of_a;
-        first_of_b = none_before l.b l.contact own.first_of_b;
-      })
+      let own = subst (IsReciprocalEdge t faces (graph_of regions links)) (sym found.2) pair in (
+        l,
+        record {
+          there = found.1;
+          a_free = free_place faces l.a (omega arith) own.a_free;
+          b_free = free_place faces l.b low own.b_free;
+          reaches = own.reaches;
+          first_of_a = none_before l.a l.contact own.first_of_a;
+          first_of_b = none_before l.b l.contact own.first_of_b;
+        },
+      )
 
 -- the name that a name has after several merges
 names_after : List Merge → ℕ → ℕ
@@ -183,8 +185,7 @@ names_after-taken (n ∷ merges) m apart inside =
 
 -- pairs of links that are reciprocal and share no region
 module _ (t : Threshold) (faces : ℕ) (regions : List Region) (links : List Link) (mates : List ℕ) (pairs : List Link)
-  (linked : AreLinked regions links) (pairing : IsPairing t faces regions links mates pairs) where
-
+    (linked : AreLinked regions links) (pairing : IsPairing t faces regions links mates pairs) where
   pair_link : (p : Link) → Contains pairs p → IsLink (length regions) p
   pair_link p inside = is_link regions links linked p (All-contains (IsReciprocalLink t faces regions links) pairs p pairing.reciprocal inside).there
 
@@ -271,10 +272,13 @@ module _ (t : Threshold) (faces : ℕ) (regions : List Region) (links : List Lin
     where
       alone : (k m : ℕ) → m ≡ k → k ≡ min k m
       alone k m same = omega arith
+
       lesser : (k m : ℕ) → k < m → k ≡ min k m
       lesser k m less = omega arith
+
       greater : (a k m : ℕ) → m ≡ a → a < k → a ≡ min k m
       greater a k m same less = omega arith
+
       stays : get_or mates k 0 ≡ k → names_after (map (merge_of regions) pairs) (name_at regions k) ≡ name_at regions k
       stays own = names_after-stay (map (merge_of regions) pairs) (name_at regions k) (λ m inside e.
           let found = pair_of m inside in let q = found.0 in
@@ -283,6 +287,7 @@ module _ (t : Threshold) (faces : ℕ) (regions : List Region) (links : List Lin
           let mate = (mates_of q found.1).of_b in
           let own' = ap (λ z. get_or mates z 0) at_k in
           omega arith)
+
       first : (p : Link) → Contains pairs p → p.a ≡ k → get_or mates k 0 ≡ p.b
           → names_after (map (merge_of regions) pairs) (name_at regions k) ≡ name_at regions k
       first p in_p a mate_k = names_after-stay (map (merge_of regions) pairs) (name_at regions k) (λ m inside e.
@@ -314,11 +319,12 @@ module _ (t : Threshold) (faces : ℕ) (regions : List Region) (links : List Lin
     in_none k below own m inside =
         let found = pair_of m inside in let q = found.0 in
         let is = pair_link q found.1 in let up = is.ordered in
-        let mate = mates_of q found.1 in
-        (λ e. let at_k = at_a q k found.1 below (ap (λ z. z.survivor) found.2 ∙ sym e) in
-            let own' = ap (λ z. get_or mates z 0) at_k in let m_a = mate.of_a in omega arith,
-        λ e. let at_k = at_b q k found.1 below (ap (λ z. z.absorbed) found.2 ∙ sym e) in
-            let own' = ap (λ z. get_or mates z 0) at_k in let m_b = mate.of_b in omega arith)
+        let mate = mates_of q found.1 in (
+          λ e. let at_k = at_a q k found.1 below (ap (λ z. z.survivor) found.2 ∙ sym e) in
+              let own' = ap (λ z. get_or mates z 0) at_k in let m_a = mate.of_a in omega arith,
+          λ e. let at_k = at_b q k found.1 below (ap (λ z. z.absorbed) found.2 ∙ sym e) in
+              let own' = ap (λ z. get_or mates z 0) at_k in let m_b = mate.of_b in omega arith,
+        )
 
     both_faces : (p : Link) → Contains pairs p
         → HasBothFaces (graph_of regions links) (merge_of regions p) (bit_or (faces_at regions p.a) (faces_at regions p.b))
@@ -351,16 +357,23 @@ module _ (t : Threshold) (faces : ℕ) (regions : List Region) (links : List Lin
           | inl own ↦
               let same : bit_or (faces_at regions k) (faces_at regions (get_or mates k 0)) ≡ faces_at regions k =
               ap (λ z. bit_or (faces_at regions k) (faces_at regions z)) own ∙ or_self (faces_at regions k) in
-              inl (subst (λ f. Contains regions (record { name = name_at regions k; faces = f })) (sym same)
-                  (Contains-get_or regions k (record { name = 0; faces = 0 }) source.1), in_none k source.1 own)
+              inl (
+                subst (λ f. Contains regions (record { name = name_at regions k; faces = f })) (sym same)
+                    (Contains-get_or regions k (record { name = 0; faces = 0 }) source.1),
+                in_none k source.1 own,
+              )
           | inr (p, in_p, at_k) ↦
               let link = pair_link p in_p in let up = link.ordered in let mate = mates_of p in_p in
               elim at_k [
                 | inl a ↦
-                    inr (merge_of regions p, Contains-map (merge_of regions) pairs p in_p, ap (name_at regions) (sym a),
-                        subst (HasBothFaces (graph_of regions links) (merge_of regions p))
-                        ((λ i. bit_or (faces_at regions (a i)) (faces_at regions (sym mate.of_a i)))
-                        ∙ ap (λ z. bit_or (faces_at regions k) (faces_at regions (get_or mates z 0))) a) (both_faces p in_p))
+                    inr (
+                      merge_of regions p,
+                      Contains-map (merge_of regions) pairs p in_p,
+                      ap (name_at regions) (sym a),
+                      subst (HasBothFaces (graph_of regions links) (merge_of regions p))
+                          ((λ i. bit_or (faces_at regions (a i)) (faces_at regions (sym mate.of_a i)))
+                          ∙ ap (λ z. bit_or (faces_at regions k) (faces_at regions (get_or mates z 0))) a) (both_faces p in_p),
+                    )
                 | inr b ↦
                     let own = ap (λ z. get_or mates z 0) b in let m_b = mate.of_b in let least = source.2 in absurd (omega arith)
               ]
@@ -373,8 +386,11 @@ module _ (t : Threshold) (faces : ℕ) (regions : List Region) (links : List Lin
         elim (pairing.single k place.1) [
           | inl own ↦
               let same : record { name = name_at regions k; faces = bit_or (faces_at regions k) (faces_at regions (get_or mates k 0)) } ≡ r =
-              (λ i. record { name = name_at regions k; faces = (ap (λ z. bit_or (faces_at regions k) (faces_at regions z)) own
-              ∙ or_self (faces_at regions k)) i }) ∙ place.2 in
+              (λ i. record {
+                name = name_at regions k;
+                faces = (ap (λ z. bit_or (faces_at regions k) (faces_at regions z)) own
+                    ∙ or_self (faces_at regions k)) i;
+              }) ∙ place.2 in
               subst (Contains kept) (kept_at k place.1 (omega arith) ∙ same) (kept_there k place.1)
           | inr (p, in_p, at_k) ↦
               let named = none (merge_of regions p) (Contains-map (merge_of regions) pairs p in_p) in

@@ -115,17 +115,21 @@ PairsSoFar-skip t faces regions links i mates pairs firsts l so_far known at_i c
   where
     last_case : (k i : ℕ) → k < i + 1 → (k < i) ⊎ (k ≡ i)
     last_case k i below = grind arith
+
     alone : pairs ≡ [] → (k : ℕ) → k < length regions → get_or mates k 0 ≡ k
     alone none k below = elim (so_far.single k below) [
       | inl same ↦ same
       | inr paired ↦ absurd (unpaired k (subst (λ ps. IsPaired ps k) none paired))
     ]
+
     here : pairs ≡ [] → IsReciprocalLink t faces regions links l → ⊥
     here none pair =
         let up = known.is.ordered in
         let low = known.is.inside in
-        cant (record { a_single = alone none l.a (omega arith); b_single = alone none l.b low },
-        by_firsts_of t faces regions links firsts l known pair)
+        cant (
+          record { a_single = alone none l.a (omega arith); b_single = alone none l.b low },
+          by_firsts_of t faces regions links firsts l known pair,
+        )
 
 -- the mates after the two regions of a link are made mates
 abbrev pub mated_by : List ℕ → Link → List ℕ
@@ -180,14 +184,18 @@ PairsSoFar-take t faces regions links i mates pairs firsts l so_far known alone 
   where
     ordered : l.a < l.b
     ordered = known.is.ordered
+
     b_in : l.b < length mates
     b_in = let len = so_far.one_each in let low = known.is.inside in omega arith
+
     a_in : l.a < length mates
     a_in = let up = known.is.ordered in let len = so_far.one_each in let low = known.is.inside in omega arith
+
     apart_of : (p : Link) → Contains pairs p → ShareNoPlace p l
     apart_of p inside =
         apart_from mates p l (All-contains (AreMates mates) pairs p so_far.mated inside) alone
         (All-contains (IsLink (length regions)) pairs p so_far.inside inside).ordered
+
     still_mates : (p : Link) → Contains pairs p → AreMates (mated_by mates l) p
     still_mates p inside =
         let none = apart_of p inside in
@@ -196,6 +204,7 @@ PairsSoFar-take t faces regions links i mates pairs firsts l so_far known alone 
           of_a = mate_of_other mates l a_in b_in ordered p.a (λ e. none.smaller (sym e)) (λ e. none.greater_smaller (sym e)) ∙ mated.of_a;
           of_b = mate_of_other mates l a_in b_in ordered p.b (λ e. none.smaller_greater (sym e)) (λ e. none.greater (sym e)) ∙ mated.of_b;
         }
+
     single_of : (k : ℕ) → k < length regions → (k ≡ l.a) ⊎ (k ≡ l.b) ⊎ ((k ≢ l.a) × (k ≢ l.b))
         → (get_or (mated_by mates l) k 0 ≡ k) ⊎ IsPaired (pairs ++ l ∷ []) k
     single_of k below (inl same) = inr (l, Contains-push pairs l, inl (sym same))
@@ -204,6 +213,7 @@ PairsSoFar-take t faces regions links i mates pairs firsts l so_far known alone 
       | inl own ↦ inl (mate_of_other mates l a_in b_in ordered k ka kb ∙ own)
       | inr (p, inside, at_k) ↦ inr (p, Contains-append_left pairs (l ∷ []) p inside, at_k)
     ]
+
     not_none : pairs ++ l ∷ [] ≡ [] → ⊥
     not_none none = let len = length_push pairs l in let zero = ap length none in omega arith
 

@@ -60,6 +60,7 @@ found_place rs i name faces ascend inside (before, after) =
     upto k here (inr (inl same)) = omega arith
     upto k here (inr (inr more)) =
         let less = ltb-true (name_at rs k) name (before k (record { name = 0; faces = 0 }) (omega arith) more) in absurd (omega arith)
+
     reach : (k : ℕ) → name_at rs k ≡ name → k < length rs → (i < k) ⊎ (i ≡ k) ⊎ (k < i) → i ≤ k → name_at rs i ≤ name
     reach k here below (inl less) low = let up = names_ascend rs i k ascend less below in omega arith
     reach k here below (inr (inl same)) low = let e = ap (name_at rs) same in omega arith

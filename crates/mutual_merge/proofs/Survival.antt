@@ -50,8 +50,7 @@ upto P i before here k below = elim (last_case k i below) [
 ]
 
 module _ (regions : List Region) (mates : List ℕ) (i : ℕ) (kept : List Region) (places : List ℕ)
-  (so_far : SurvivorsSoFar regions mates i kept places) (known : AtRegion regions mates i) where
-
+    (so_far : SurvivorsSoFar regions mates i kept places) (known : AtRegion regions mates i) where
   -- a place of before is still there
   place_before : (p k : ℕ) → k < i → get_or (places ++ p ∷ []) k 0 ≡ get_or places k 0
   place_before p k below = let len = so_far.one_each in get_or_append_left places (p ∷ []) 0 k (omega arith)
@@ -87,10 +86,6 @@ module _ (regions : List Region) (mates : List ℕ) (i : ℕ) (kept : List Regio
             let less = found.1 in
             (found.0, omega arith, found.2, place_before p found.0 found.1 ∙ found.3);
       }
-
-
-
-
 
   -- the next region has no mate before it, and is kept with the faces of both
   pub SurvivorsSoFar-keep : (r : Region) → i ≤ get_or mates i 0 → r.name ≡ name_at regions i

@@ -3,3 +3,4 @@ pub mod Firsts
 pub mod Pairs
 pub mod Merged
 pub mod Left
+pub mod Samples

@@ -11,5 +11,7 @@ mod merging;
 mod pairs;
 mod residue;
 mod settling;
+#[cfg(test)]
+mod tests;
 
 pub use settling::{Settled, settle};
