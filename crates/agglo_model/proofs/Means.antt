@@ -1,5 +1,5 @@
 -- Pair order by cross products, and the mean of two contacts that are added up.
-use Rattle.std.proofs.Common.{◌≢◌, ◌⊎◌, inl, inr, ℕ, ◌*◌, ◌<◌, ◌≤◌, arith}
+use Rattle.std.proofs.Common.{◌≡◌, ◌≢◌, ◌⊎◌, inl, inr, ℕ, ◌*◌, ◌<◌, ◌≤◌, arith}
 use Rattle.std.proofs.Math.Nat.{mul-le-mul_right, mul-lt-mul_of_pos_right, le_of_mul-le-mul_left, lt_of_mul-lt-mul_left}
 use Rattle.agglo_model.specs.PairOrder.{Contact, Threshold, Before, Reaches, added}
 use Rattle.agglo_model.specs.MeanLaws.{AddsUp, IsStrictOrder}
@@ -76,3 +76,30 @@ before-reaches t c d pos (inl one) reaches =
     falls c.sum c.count d.sum d.count t.p t.q pos (omega (arith, one)) reaches
 before-reaches t c d pos (inr (same, tie)) reaches =
     falls c.sum c.count d.sum d.count t.p t.q pos (omega (arith, same)) reaches
+
+-- a contact of the same rank comes before what the other one comes before
+same_rank : (c d e : Contact) → 0 < c.count → 0 < d.count → c.sum * d.count ≡ d.sum * c.count → c.tie ≡ d.tie
+    → Before c e → Before d e
+same_rank c d e pc pd mean tie (inl one) =
+    inl (falls_second d.sum d.count c.sum c.count e.sum e.count pd (omega (arith, mean)) one)
+same_rank c d e pc pd mean tie (inr (same, before)) =
+    let down = falls d.sum d.count c.sum c.count e.sum e.count pc (omega (arith, mean)) (omega (arith, same)) in
+    let up = falls e.sum e.count c.sum c.count d.sum d.count pc (omega (arith, same)) (omega (arith, mean)) in
+    inr (omega (arith, down, up), omega arith)
+
+order_cases : (m n : ℕ) → (m < n) ⊎ (m ≡ n) ⊎ (n < m)
+order_cases m n = grind arith
+
+-- what stands between two contacts comes after the first or before the second
+pub before-between : (c d e : Contact) → 0 < c.count → 0 < d.count → 0 < e.count → Before c e
+    → Before c d ⊎ Before d e
+before-between c d e pc pd pe before =
+    by_cases (order_cases (c.sum * d.count) (d.sum * c.count)) (order_cases c.tie d.tie)
+  where
+    by_cases : (c.sum * d.count < d.sum * c.count) ⊎ (c.sum * d.count ≡ d.sum * c.count) ⊎ (d.sum * c.count < c.sum * d.count)
+        → (c.tie < d.tie) ⊎ (c.tie ≡ d.tie) ⊎ (d.tie < c.tie) → Before c d ⊎ Before d e
+    by_cases (inl below) ties = inr (before_trans d c e pd pc pe (inl below) before)
+    by_cases (inr (inl same)) (inl less) = inl (inr (same, less))
+    by_cases (inr (inl same)) (inr (inl equal)) = inr (same_rank c d e pc pd same equal before)
+    by_cases (inr (inl same)) (inr (inr more)) = inr (before_trans d c e pd pc pe (inr (omega (arith, same), more)) before)
+    by_cases (inr (inr above)) ties = inl (inl above)

@@ -1,0 +1,12 @@
+pub mod RegionPlaces
+pub mod LinkedEdges
+pub mod FirstContacts
+pub mod Pairing
+pub mod Survival
+pub mod MovedLinks
+pub mod JoinedLinks
+pub mod MergedMates
+pub mod PairRounds
+pub mod KeptRegions
+pub mod LeftGraphs
+pub mod SampleGraphs

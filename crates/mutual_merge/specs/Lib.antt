@@ -1,0 +1,6 @@
+pub mod Linked
+pub mod Firsts
+pub mod Pairs
+pub mod Merged
+pub mod Left
+pub mod Samples

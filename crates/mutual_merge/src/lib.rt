@@ -1,0 +1,17 @@
+//! Merging the reciprocal pairs of a region graph, and what is left of the graph when no pair is
+//! reciprocal any more.
+//!
+//! It stands on `region_graph` for graphs, on `merge_tree` for merges and on `mean_fraction` for contacts
+//! and the threshold. Agglomeration by chunks stands on it.
+#![tactic(auto)]
+
+mod firsts;
+mod links;
+mod merging;
+mod pairs;
+mod residue;
+mod settling;
+#[cfg(test)]
+mod tests;
+
+pub use settling::{Settled, settle};
