@@ -16,6 +16,7 @@ pub mod Report
 pub mod Words
 pub mod GreedyExamples
 pub mod Cell
+pub mod Boxes
 pub mod Cutting
 pub mod CuttingExamples
 pub mod CuttingLaws

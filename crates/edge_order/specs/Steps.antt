@@ -1,6 +1,7 @@
 -- The six steps from a voxel, and the step along its best edge.
-use Rattle.std.specs.Prelude.{◌≡◌, ℕ, ◌+◌, ◌*◌, ◌<◌, List, length, slice_index_or, Option, Some, None, MatchOption}
-use Rattle.agglo_model.specs.Axes.{Axes}
+use Rattle.std.specs.Prelude.{◌≡◌, ℕ, ◌+◌, ◌*◌, ◌<◌, nat_lt, Bool, true, List, length, slice_index_or, Option, Some, None, MatchOption}
+use Rattle.agglo_model.specs.Axes.{Axes, coordinate}
+use Rattle.agglo_model.specs.Boxes.{box_voxel}
 use Rattle.agglo_model.specs.Grid.{Grid}
 use Rattle.agglo_model.specs.EdgeOrder.{IsBest, HasNoBest}
 use Rattle.edge_order.specs.declared.step.Step.{Step}
@@ -40,6 +41,21 @@ LeadsTo a v OnX w = w ≡ v + 1
 LeadsTo a v OnY w = w ≡ v + a.nx
 LeadsTo a v OnZ w = w ≡ v + a.nx * a.ny
 
+-- the step leads to a voxel of the grid, or stays
+abbrev pub leads_within : Axes → ℕ → Step → Bool
+leads_within a v Stay = true
+leads_within a v BackX = nat_lt 0 (coordinate a v 0)
+leads_within a v BackY = nat_lt 0 (coordinate a v 1)
+leads_within a v BackZ = nat_lt 0 (coordinate a v 2)
+leads_within a v OnX = nat_lt (coordinate a v 0 + 1) a.nx
+leads_within a v OnY = nat_lt (coordinate a v 1 + 1) a.ny
+leads_within a v OnZ = nat_lt (coordinate a v 2 + 1) a.nz
+
 -- each entry is the best step of its voxel
 abbrev pub AreBestSteps : Grid → ℕ → List Step → Type 0
 AreBestSteps g low steps = (v : ℕ) → v < length steps → IsBestStep g low v (slice_index_or steps v Stay)
+
+-- each entry is the best step of its voxel, where these are the voxels of a box
+abbrev pub AreBoxSteps : Grid → ℕ → List ℕ → List ℕ → List Step → Type 0
+AreBoxSteps g low lo hi steps =
+    (i : ℕ) → i < length steps → IsBestStep g low (box_voxel g.axes lo hi i) (slice_index_or steps i Stay)

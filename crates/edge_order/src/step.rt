@@ -1,7 +1,7 @@
-ghost use Rattle.std.specs.Prelude.{◌≡◌, ◌<◌};
+ghost use Rattle.std.specs.Prelude.{◌≡◌, ◌<◌, true};
 ghost use Rattle.agglo_model.specs.Axes.{voxel_count};
 ghost use Rattle.edge_order.specs.Keys.{key, rank, step_of_key};
-ghost use Rattle.edge_order.specs.Steps.{edge_at, reversed};
+ghost use Rattle.edge_order.specs.Steps.{LeadsTo, edge_at, leads_within, reversed};
 
 use seg_base::Dims;
 
@@ -93,6 +93,26 @@ impl Step {
             Step::OnX => Some(3 * (v + 1)),
             Step::OnY => Some(3 * (v + row) + 1),
             Step::OnZ => Some(3 * (v + layer) + 2),
+        }
+    }
+
+    /// The voxel to which this step leads from voxel `v`. It does not lead out of the grid.
+    pub fn far_end(self, dims: &Dims, v: u32) -> u32
+        requires voxel { v < voxel_count dims.now }
+        requires within { leads_within dims.now v self ≡ true }
+        ensures leads { LeadsTo dims.now v self result }
+        ensures voxel { result < voxel_count dims.now }
+    {
+        let row = dims.nx();
+        let layer = row * dims.ny();
+        match self {
+            Step::Stay => v,
+            Step::BackX => v - 1,
+            Step::BackY => v - row,
+            Step::BackZ => v - layer,
+            Step::OnX => v + 1,
+            Step::OnY => v + row,
+            Step::OnZ => v + layer,
         }
     }
 }
