@@ -1,5 +1,5 @@
 -- Steps from place to place, in a volume and in a box of it.
-use Rattle.std.proofs.Common.{◌≡◌, ℕ, ◌+◌, ◌*◌, ◌-◌, ◌<◌, ◌≤◌, Bool, true, false, nat_lt, List, get_or, refl, sym, ◌∙◌, ap, subst, arith, lit<, ltb-true, ltb-false}
+use Rattle.std.proofs.Common.{◌≡◌, ℕ, ◌+◌, ◌*◌, ◌-◌, ◌<◌, ◌≤◌, true, false, nat_lt, List, get_or, refl, sym, ◌∙◌, ap, subst, arith, lit<, ltb-true, ltb-false}
 use Rattle.std.proofs.lemmas.Bool.Decides.{nat_tests}
 use Rattle.agglo_model.specs.Axes.{Axes, IsWithinLimits, IsPlace, voxel_count, voxel_at, coordinate}
 use Rattle.agglo_model.specs.Boxes.{IsBoxOf, box_grid, box_voxel}
@@ -7,7 +7,7 @@ use Rattle.agglo_model.specs.Cell.{IsInBox}
 use Rattle.agglo_model.specs.Grid.{Grid}
 use Rattle.agglo_model.proofs.Places.{voxel_at-lt, place-voxel, voxel_at-place, coordinate-voxel_at_x, coordinate-voxel_at_y, coordinate-voxel_at_z}
 use Rattle.agglo_model.proofs.BoxPlaces.{IsBoxPlace, box_voxel-place, box_voxel-x, box_voxel-y, box_voxel-z}
-use Rattle.edge_order.specs.Steps.{IsBestStep, LeadsTo, leads_within}
+use Rattle.edge_order.specs.Steps.{IsBestStep, LeadsTo, leads_within, steps_within}
 use Rattle.edge_order.proofs.Tracks.{edge_back_x, edge_back_at, edge_on_x, edge_on_y, edge_on_z}
 use Rattle.edge_order.specs.declared.step.Step.{Step}
 use Rattle.edge_order.specs.declared.step.Step.TheVariants.{Stay, BackX, BackY, BackZ, OnX, OnY, OnZ}
@@ -28,27 +28,13 @@ step_z BackZ z = z - 1
 step_z OnZ z = z + 1
 step_z _ z = z
 
--- the step leads from the place x, y, z to a place of the grid
-abbrev within : Axes → ℕ → ℕ → ℕ → Step → Bool
-within a x y z Stay = true
-within a x y z BackX = nat_lt 0 x
-within a x y z BackY = nat_lt 0 y
-within a x y z BackZ = nat_lt 0 z
-within a x y z OnX = nat_lt (x + 1) a.nx
-within a x y z OnY = nat_lt (y + 1) a.ny
-within a x y z OnZ = nat_lt (z + 1) a.nz
+-- whether a step leads within the grid, by the place of the voxel
+pub leads_at_place : (a : Axes) (x y z : ℕ) (s : Step) → IsPlace a x y z
+    → leads_within a (voxel_at a x y z) s ≡ steps_within a x y z s
+leads_at_place a x y z s p = λ k. steps_within a
+    (coordinate-voxel_at_x a x y z p k) (coordinate-voxel_at_y a x y z p k) (coordinate-voxel_at_z a x y z p k) s
 
-within_is : (a : Axes) (v : ℕ) (s : Step)
-    → leads_within a v s ≡ within a (coordinate a v 0) (coordinate a v 1) (coordinate a v 2) s
-within_is a v Stay = refl
-within_is a v BackX = refl
-within_is a v BackY = refl
-within_is a v BackZ = refl
-within_is a v OnX = refl
-within_is a v OnY = refl
-within_is a v OnZ = refl
-
-lands : (a : Axes) (x y z : ℕ) (s : Step) → IsPlace a x y z → within a x y z s ≡ true
+lands : (a : Axes) (x y z : ℕ) (s : Step) → IsPlace a x y z → steps_within a x y z s ≡ true
     → IsPlace a (step_x s x) (step_y s y) (step_z s z)
 lands a x y z Stay p t = p
 lands a x y z BackX p t = record { in_x = omega (arith, p.in_x); in_y = p.in_y; in_z = p.in_z }
@@ -67,7 +53,7 @@ layer_back a x y z z' is = subst (λ r. voxel_at a x y z' + a.nx * a.ny ≡ voxe
 less_one : (n : ℕ) → nat_lt 0 n ≡ true → n - 1 + 1 ≡ n
 less_one n t = let h : 0 < n = ltb-true 0 n t in omega arith
 
-leads : (a : Axes) (x y z : ℕ) (s : Step) → within a x y z s ≡ true
+leads : (a : Axes) (x y z : ℕ) (s : Step) → steps_within a x y z s ≡ true
     → LeadsTo a (voxel_at a x y z) s (voxel_at a (step_x s x) (step_y s y) (step_z s z))
 leads a x y z Stay t = refl
 leads a x y z BackX t = let h = less_one x t in omega arith
@@ -98,7 +84,7 @@ end_at a v s = voxel_at a (step_x s (coordinate a v 0)) (step_y s (coordinate a 
 pub far_voxel : (a : Axes) (v : ℕ) (s : Step) → IsWithinLimits a → v < voxel_count a → leads_within a v s ≡ true
     → (w : ℕ) × HasEnd a v s w
 far_voxel a v s limits below t =
-    let at : within a (coordinate a v 0) (coordinate a v 1) (coordinate a v 2) s ≡ true = sym (within_is a v s) ∙ t in (
+    let at : steps_within a (coordinate a v 0) (coordinate a v 1) (coordinate a v 2) s ≡ true = t in (
       end_at a v s,
       record {
         leads = subst (λ u. LeadsTo a u s (end_at a v s)) (voxel_at-place a v)
@@ -124,8 +110,8 @@ best_within g low v OnZ limits below best = sym (edge_on_z g.axes v limits below
 more_lt : (k x y : ℕ) → x < y - k → k + x < y
 more_lt k x y lt = omega arith
 
-wider : (a : Axes) (lo hi : List ℕ) (x y z : ℕ) (s : Step) → IsBoxOf a lo hi → within (box_grid lo hi) x y z s ≡ true
-    → within a (get_or lo 0 0 + x) (get_or lo 1 0 + y) (get_or lo 2 0 + z) s ≡ true
+wider : (a : Axes) (lo hi : List ℕ) (x y z : ℕ) (s : Step) → IsBoxOf a lo hi → steps_within (box_grid lo hi) x y z s ≡ true
+    → steps_within a (get_or lo 0 0 + x) (get_or lo 1 0 + y) (get_or lo 2 0 + z) s ≡ true
 wider a lo hi x y z Stay box t = refl
 wider a lo hi x y z BackX box t = grind (arith, nat_tests)
 wider a lo hi x y z BackY box t = grind (arith, nat_tests)
@@ -137,7 +123,7 @@ wider a lo hi x y z OnZ box t = let m = box.most_z in grind (arith, nat_tests)
 shift_back : (k n : ℕ) → nat_lt 0 n ≡ true → k + (n - 1) ≡ k + n - 1
 shift_back k n t = let h = less_one n t in omega arith
 
-shift_x : (a : Axes) (x y z k : ℕ) (s : Step) → within a x y z s ≡ true → k + step_x s x ≡ step_x s (k + x)
+shift_x : (a : Axes) (x y z k : ℕ) (s : Step) → steps_within a x y z s ≡ true → k + step_x s x ≡ step_x s (k + x)
 shift_x a x y z k Stay t = refl
 shift_x a x y z k BackX t = shift_back k x t
 shift_x a x y z k BackY t = refl
@@ -146,7 +132,7 @@ shift_x a x y z k OnX t = omega arith
 shift_x a x y z k OnY t = refl
 shift_x a x y z k OnZ t = refl
 
-shift_y : (a : Axes) (x y z k : ℕ) (s : Step) → within a x y z s ≡ true → k + step_y s y ≡ step_y s (k + y)
+shift_y : (a : Axes) (x y z k : ℕ) (s : Step) → steps_within a x y z s ≡ true → k + step_y s y ≡ step_y s (k + y)
 shift_y a x y z k Stay t = refl
 shift_y a x y z k BackX t = refl
 shift_y a x y z k BackY t = shift_back k y t
@@ -155,7 +141,7 @@ shift_y a x y z k OnX t = refl
 shift_y a x y z k OnY t = omega arith
 shift_y a x y z k OnZ t = refl
 
-shift_z : (a : Axes) (x y z k : ℕ) (s : Step) → within a x y z s ≡ true → k + step_z s z ≡ step_z s (k + z)
+shift_z : (a : Axes) (x y z k : ℕ) (s : Step) → steps_within a x y z s ≡ true → k + step_z s z ≡ step_z s (k + z)
 shift_z a x y z k Stay t = refl
 shift_z a x y z k BackX t = refl
 shift_z a x y z k BackY t = refl
@@ -173,7 +159,7 @@ box_leads a lo hi i j s box at t to =
     let x = coordinate b i 0 in
     let y = coordinate b i 1 in
     let z = coordinate b i 2 in
-    let inside : within b x y z s ≡ true = sym (within_is b i s) ∙ t in
+    let inside : steps_within b x y z s ≡ true = t in
     let end : voxel_at b (step_x s x) (step_y s y) (step_z s z) ≡ j =
     same_end b i _ j s (subst (λ u. LeadsTo b u s (voxel_at b (step_x s x) (step_y s y) (step_z s z))) (voxel_at-place b i) (leads b x y z s inside)) to in
     let there = sym (λ k. voxel_at a (shift_x b x y z (get_or lo 0 0) s inside k) (shift_y b x y z (get_or lo 1 0) s inside k) (shift_z b x y z (get_or lo 2 0) s inside k))
@@ -190,8 +176,8 @@ last_out : (k x n : ℕ) → nat_lt (x + 1) (n - k) ≡ false → k + x + 1 < n 
 last_out k x n t lt = let h = ltb-false (x + 1) (n - k) t in omega arith
 
 out_at : (a : Axes) (lo hi : List ℕ) (x y z : ℕ) (s : Step)
-    → within (box_grid lo hi) x y z s ≡ false
-    → within a (get_or lo 0 0 + x) (get_or lo 1 0 + y) (get_or lo 2 0 + z) s ≡ true
+    → steps_within (box_grid lo hi) x y z s ≡ false
+    → steps_within a (get_or lo 0 0 + x) (get_or lo 1 0 + y) (get_or lo 2 0 + z) s ≡ true
     → get_or lo 0 0 ≤ step_x s (get_or lo 0 0 + x) → step_x s (get_or lo 0 0 + x) < get_or hi 0 0
     → get_or lo 1 0 ≤ step_y s (get_or lo 1 0 + y) → step_y s (get_or lo 1 0 + y) < get_or hi 1 0
     → get_or lo 2 0 ≤ step_z s (get_or lo 2 0 + z) → step_z s (get_or lo 2 0 + z) < get_or hi 2 0
@@ -212,16 +198,16 @@ leaves_box a lo hi i w s at out t to inside =
     let x = get_or lo 0 0 + coordinate b i 0 in
     let y = get_or lo 1 0 + coordinate b i 1 in
     let z = get_or lo 2 0 + coordinate b i 2 in
-    let wide : within a x y z s ≡ true =
-    (λ k. within a (sym (box_voxel-x a lo hi i at) k) (sym (box_voxel-y a lo hi i at) k) (sym (box_voxel-z a lo hi i at) k) s)
-    ∙ sym (within_is a (box_voxel a lo hi i) s) ∙ t in
+    let wide : steps_within a x y z s ≡ true =
+    (λ k. steps_within a (sym (box_voxel-x a lo hi i at) k) (sym (box_voxel-y a lo hi i at) k) (sym (box_voxel-z a lo hi i at) k) s)
+    ∙ t in
     let place : IsPlace a (step_x s x) (step_y s y) (step_z s z) = lands a x y z s at.place wide in
     let is : voxel_at a (step_x s x) (step_y s y) (step_z s z) ≡ w =
     same_end a (box_voxel a lo hi i) _ w s (leads a x y z s wide) to in
     let cx : coordinate a w 0 ≡ step_x s x = ap (λ u. coordinate a u 0) (sym is) ∙ coordinate-voxel_at_x a _ _ _ place in
     let cy : coordinate a w 1 ≡ step_y s y = ap (λ u. coordinate a u 1) (sym is) ∙ coordinate-voxel_at_y a _ _ _ place in
     let cz : coordinate a w 2 ≡ step_z s z = ap (λ u. coordinate a u 2) (sym is) ∙ coordinate-voxel_at_z a _ _ _ place in
-    out_at a lo hi (coordinate b i 0) (coordinate b i 1) (coordinate b i 2) s (sym (within_is b i s) ∙ out) wide
+    out_at a lo hi (coordinate b i 0) (coordinate b i 1) (coordinate b i 2) s (out) wide
     (subst (λ n. get_or lo 0 0 ≤ n) cx inside.from_x) (subst (λ n. n < get_or hi 0 0) cx inside.to_x)
     (subst (λ n. get_or lo 1 0 ≤ n) cy inside.from_y) (subst (λ n. n < get_or hi 1 0) cy inside.to_y)
     (subst (λ n. get_or lo 2 0 ≤ n) cz inside.from_z) (subst (λ n. n < get_or hi 2 0) cz inside.to_z)

@@ -41,15 +41,19 @@ LeadsTo a v OnX w = w ≡ v + 1
 LeadsTo a v OnY w = w ≡ v + a.nx
 LeadsTo a v OnZ w = w ≡ v + a.nx * a.ny
 
--- the step leads to a voxel of the grid, or stays
+-- the step leads from the place x, y, z to another place of the grid, or stays
+abbrev pub steps_within : Axes → ℕ → ℕ → ℕ → Step → Bool
+steps_within a x y z Stay = true
+steps_within a x y z BackX = nat_lt 0 x
+steps_within a x y z BackY = nat_lt 0 y
+steps_within a x y z BackZ = nat_lt 0 z
+steps_within a x y z OnX = nat_lt (x + 1) a.nx
+steps_within a x y z OnY = nat_lt (y + 1) a.ny
+steps_within a x y z OnZ = nat_lt (z + 1) a.nz
+
+-- the step leads from voxel v to another voxel of the grid, or stays
 abbrev pub leads_within : Axes → ℕ → Step → Bool
-leads_within a v Stay = true
-leads_within a v BackX = nat_lt 0 (coordinate a v 0)
-leads_within a v BackY = nat_lt 0 (coordinate a v 1)
-leads_within a v BackZ = nat_lt 0 (coordinate a v 2)
-leads_within a v OnX = nat_lt (coordinate a v 0 + 1) a.nx
-leads_within a v OnY = nat_lt (coordinate a v 1 + 1) a.ny
-leads_within a v OnZ = nat_lt (coordinate a v 2 + 1) a.nz
+leads_within a v step = steps_within a (coordinate a v 0) (coordinate a v 1) (coordinate a v 2) step
 
 -- each entry is the best step of its voxel
 abbrev pub AreBestSteps : Grid → ℕ → List Step → Type 0

@@ -1,9 +1,20 @@
+ghost use Rattle.std.specs.Prelude.{◌≡◌, ◌≢◌, ℕ, ◌+◌, ◌<◌, ◌≤◌, EachIndex, IfOk, length, true};
+ghost use Rattle.agglo_model.specs.Axes.{IsPlace, voxel_at, voxel_count};
+ghost use Rattle.agglo_model.specs.Boxes.{IsBoxOf};
+ghost use Rattle.agglo_model.specs.Grid.{IsWhole};
+ghost use Rattle.edge_order.specs.Steps.{IsBestStep, LeadsTo, leads_within};
+ghost use Rattle.edge_order.specs.declared.step.Step.TheVariants.{Stay};
+ghost use Rattle.steepest_ascent.specs.CellEnds.{IsEndOf, IsInCell, end_at};
+ghost use Rattle.steepest_ascent.specs.Charts.{AreEndsSoFar, GainsEnds, IsCellTurn, IsEndAt, StaysWithin, own_grid, step_of, voxel_of};
+ghost use Rattle.steepest_ascent.specs.declared.ends.End.TheVariants.{Background};
+
 use crate::ascent::Turn;
 use crate::ends::End;
 use agglo_model::Memory;
 use edge_order::{Step, best_step, cell_steps};
 use seg_base::{Cell, Dims};
 use std::alloc::Global;
+use std::marker::Model;
 use volume_file::Volume;
 
 /// A cell of a volume with the best step of each of its voxels.
@@ -17,6 +28,26 @@ pub(crate) struct CellAscent<'a> {
     steps: Vec<Step>,
 }
 
+impl<'a> Model for CellAscent<'a> {
+    ghost use Rattle.steepest_ascent.specs.Charts.{Chart, IsCharted};
+
+    ghost Value = { Chart };
+
+    ghost view = { λ ascent. record {
+      grid = ascent.vol.now;
+      low = ascent.low;
+      cell = ascent.cell;
+      steps = ascent.steps.items;
+    } };
+
+    ghost invariant = { λ ascent. IsCharted (record {
+      grid = ascent.vol.now;
+      low = ascent.low;
+      cell = ascent.cell;
+      steps = ascent.steps.items;
+    }) ascent.grid };
+}
+
 impl<'a> CellAscent<'a> {
     /// Finds the best step of each voxel of the cell.
     pub(crate) fn of(
@@ -24,19 +55,30 @@ impl<'a> CellAscent<'a> {
         vol: &'a Volume,
         low: u8,
         cell: &Cell,
-    ) -> Result<CellAscent<'a>, Memory> {
+    ) -> Result<CellAscent<'a>, Memory>
+        requires { IsBoxOf vol.now.axes cell.now.lo cell.now.hi }
+        ensures grid { IfOk result (λ ascent. ascent.grid ≡ vol.now) }
+        ensures low { IfOk result (λ ascent. ascent.low ≡ low) }
+        ensures cell { IfOk result (λ ascent. ascent.cell ≡ cell.now) }
+    {
+        let grid = cell.grid(vol.dims());
         let steps = cell_steps(alloc, vol, low, cell)?;
         Ok(CellAscent {
             vol,
             low,
             cell: *cell,
-            grid: cell.grid(),
+            grid,
             steps,
         })
     }
 
     /// Gives each voxel whose best edge leads out of the cell its end.
-    pub(crate) fn mark_all(&self, ends: &mut [End]) {
+    pub(crate) fn mark_all(&self, ends: &mut [End])
+        requires one_each { length ends.old ≡ voxel_count (own_grid self.now) }
+        requires right { AreEndsSoFar self.now ends.old }
+        ensures right { AreEndsSoFar self.now ends.new }
+        ensures within { (i : ℕ) → StaysWithin self.now ends.new i }
+    {
         for z in 0..self.grid.nz() {
             for y in 0..self.grid.ny() {
                 self.mark_row(ends, y, z);
@@ -45,33 +87,50 @@ impl<'a> CellAscent<'a> {
     }
 
     /// The same for the row of voxels at these coordinates in the cell.
-    fn mark_row(&self, ends: &mut [End], y: u32, z: u32) {
-        let [from_x, from_y, from_z] = self.cell.lo;
-        let i = self.grid.voxel(0, y, z);
-        let v = self.vol.dims().voxel(from_x, from_y + y, from_z + z);
+    fn mark_row(&self, ends: &mut [End], y: u32, z: u32)
+        requires in_y { y < (own_grid self.now).ny }
+        requires in_z { z < (own_grid self.now).nz }
+        requires one_each { length ends.old ≡ voxel_count (own_grid self.now) }
+        ensures gains { GainsEnds self.now ends.old ends.new }
+        ensures within { (x : ℕ) → x < (own_grid self.now).nx
+            → StaysWithin self.now ends.new (voxel_at (own_grid self.now) x y z) }
+    {
         let width = self.grid.nx();
-        self.mark(ends, i, v, 1, Step::BackX, true);
-        self.mark(ends, i + (width - 1), v + (width - 1), 1, Step::OnX, true);
-        self.mark(ends, i, v, width, Step::BackY, y == 0);
-        self.mark(ends, i, v, width, Step::OnY, y + 1 == self.grid.ny());
-        self.mark(ends, i, v, width, Step::BackZ, z == 0);
-        self.mark(ends, i, v, width, Step::OnZ, z + 1 == self.grid.nz());
+        if 0 < y && y + 1 < self.grid.ny() && 0 < z && z + 1 < self.grid.nz() {
+            self.mark(ends, 0, y, z);
+            self.mark(ends, width - 1, y, z);
+            return;
+        }
+        for x in 0..width {
+            self.mark(ends, x, y, z);
+        }
     }
 
-    /// The same for those of so many voxels whose best step is this one, where it leads out of the cell
-    /// from there. The first is voxel `i` of the cell and voxel `v` of the volume.
-    fn mark(&self, ends: &mut [End], i: u32, v: u32, count: u32, step: Step, leads_out: bool) {
-        if leads_out {
-            for k in 0..count {
-                if self.steps[(i + k) as usize] == step {
-                    ends[(i + k) as usize] = self.outer_end(v + k, step);
-                }
-            }
+    /// The same for the voxel at this place in the cell.
+    fn mark(&self, ends: &mut [End], x: u32, y: u32, z: u32)
+        requires place { IsPlace (own_grid self.now) x y z }
+        requires one_each { length ends.old ≡ voxel_count (own_grid self.now) }
+        ensures gains { GainsEnds self.now ends.old ends.new }
+        ensures within { StaysWithin self.now ends.new (voxel_at (own_grid self.now) x y z) }
+    {
+        let i = self.grid.voxel(x, y, z);
+        let step = self.steps[i as usize];
+        if !step.leads_within(&self.grid, x, y, z) {
+            let [from_x, from_y, from_z] = self.cell.lo;
+            let v = self.vol.dims().voxel(from_x + x, from_y + y, from_z + z);
+            ends[i as usize] = self.outer_end(v, step);
         }
     }
 
     /// The end of voxel `v` of the volume, whose best step leads out of the cell.
-    fn outer_end(&self, v: u32, step: Step) -> End {
+    fn outer_end(&self, v: u32, step: Step) -> End
+        requires voxel { v < voxel_count self.now.grid.axes }
+        requires best { IsBestStep self.now.grid self.now.low v step }
+        requires moves { step ≢ Stay }
+        requires leaves { (w : ℕ) → LeadsTo self.now.grid.axes v step w → ¬ (IsInCell self.now.grid.axes self.now.cell w) }
+        ensures end { IsEndOf self.now.grid self.now.low self.now.cell v result }
+        ensures known { result ≢ Background }
+    {
         let far = step.far_end(self.vol.dims(), v);
         if best_step(self.vol, self.low, far) == step.reversed() {
             End::Root(v.min(far) + 1)
@@ -81,7 +140,12 @@ impl<'a> CellAscent<'a> {
     }
 
     /// How the ascent goes on from voxel `i` of the cell, whose best step leads to another voxel of it.
-    fn turn(&self, i: u32) -> Turn {
+    fn turn(&self, i: u32) -> Turn
+        requires voxel { i < voxel_count (own_grid self.now) }
+        requires within { leads_within (own_grid self.now) i (step_of self.now i) ≡ true }
+        ensures turn { IsCellTurn self.now i result }
+        ensures whole { IsWhole self.now.grid }
+    {
         let step = self.steps[i as usize];
         if step == Step::Stay {
             return Turn::Stays;
@@ -95,14 +159,23 @@ impl<'a> CellAscent<'a> {
     }
 
     /// The number in the volume of voxel `i` of the cell.
-    fn voxel(&self, i: u32) -> u32 {
+    fn voxel(&self, i: u32) -> u32
+        requires { i < voxel_count (own_grid self.now) }
+        ensures value { result ≡ voxel_of self.now i }
+        ensures voxel { result < voxel_count self.now.grid.axes }
+    {
         let [x, y, z] = self.grid.place(i);
         let [from_x, from_y, from_z] = self.cell.lo;
         self.vol.dims().voxel(from_x + x, from_y + y, from_z + z)
     }
 
     /// Gives each voxel its end. Those that have one keep it.
-    pub(crate) fn settle_all(&self, ends: &mut [End]) {
+    pub(crate) fn settle_all(&self, ends: &mut [End])
+        requires one_each { length ends.old ≡ voxel_count (own_grid self.now) }
+        requires right { AreEndsSoFar self.now ends.old }
+        requires within { (i : ℕ) → StaysWithin self.now ends.old i }
+        ensures { EachIndex ends.new (λ i. IsEndAt self.now i (end_at ends.new i)) }
+    {
         for i in 0..self.grid.voxels() {
             self.settle(ends, i);
         }
@@ -110,7 +183,14 @@ impl<'a> CellAscent<'a> {
 
     /// Gives voxel `i` its end, where it has none yet and is no background. Other voxels may gain theirs
     /// with it.
-    fn settle(&self, ends: &mut [End], i: u32) {
+    fn settle(&self, ends: &mut [End], i: u32)
+        requires voxel { i < voxel_count (own_grid self.now) }
+        requires one_each { length ends.old ≡ voxel_count (own_grid self.now) }
+        requires right { AreEndsSoFar self.now ends.old }
+        requires within { (k : ℕ) → StaysWithin self.now ends.old k }
+        ensures settled { IsEndAt self.now i (end_at ends.new i) }
+        ensures gains { GainsEnds self.now ends.old ends.new }
+    {
         if !ends[i as usize].is_background() {
             return;
         }
@@ -120,8 +200,15 @@ impl<'a> CellAscent<'a> {
         }
     }
 
-    /// The end of voxel `i`, found by ascent as far as the first voxel that has its end.
-    fn end(&self, ends: &[End], i: u32) -> End {
+    /// The end of voxel `i`, which has none yet, found by ascent as far as the first voxel that has its end.
+    fn end(&self, ends: &[End], i: u32) -> End
+        requires voxel { i < voxel_count (own_grid self.now) }
+        requires one_each { length ends.now ≡ voxel_count (own_grid self.now) }
+        requires right { AreEndsSoFar self.now ends.now }
+        requires within { (k : ℕ) → StaysWithin self.now ends.now k }
+        requires none { end_at ends.now i ≡ Background }
+        ensures { IsEndAt self.now i result }
+    {
         let mut here = i;
         loop {
             match self.turn(here) {
@@ -139,7 +226,16 @@ impl<'a> CellAscent<'a> {
     }
 
     /// Gives its end to voxel `i`, and to those without one to which the ascent from it leads.
-    fn give(&self, ends: &mut [End], i: u32, end: End) {
+    fn give(&self, ends: &mut [End], i: u32, end: End)
+        requires voxel { i < voxel_count (own_grid self.now) }
+        requires one_each { length ends.old ≡ voxel_count (own_grid self.now) }
+        requires within { (k : ℕ) → StaysWithin self.now ends.old k }
+        requires none { end_at ends.old i ≡ Background }
+        requires right { IsEndAt self.now i end }
+        requires known { end ≢ Background }
+        ensures given { end_at ends.new i ≡ end }
+        ensures gains { GainsEnds self.now ends.old ends.new }
+    {
         ends[i as usize] = end;
         let mut here = i;
         while let Turn::Climbs(next) = self.turn(here) {

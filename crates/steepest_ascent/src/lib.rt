@@ -6,11 +6,11 @@
 mod ascent;
 mod basins;
 mod cell_ascent;
-mod climb;
+mod climbing;
 mod ends;
 #[cfg(test)]
 mod tests;
 
 pub use basins::whole_basins;
-pub use climb::climb;
+pub use climbing::climb;
 pub use ends::{End, Ends};
