@@ -8,9 +8,10 @@ use Rattle.edge_order.specs.Steps.{leads_within, steps_within}
 use Rattle.edge_order.specs.declared.step.Step.{Step}
 use Rattle.edge_order.specs.declared.step.Step.TheVariants.{Stay, BackX, BackY, BackZ, OnX, OnY, OnZ}
 use Rattle.edge_order.proofs.StepPlaces.{leads_at_place}
-use Rattle.steepest_ascent.specs.Charts.{Chart, IsCharted, own_grid, step_of, GainsEnds, StaysWithin}
+use Rattle.steepest_ascent.specs.CellEnds.{end_at}
+use Rattle.steepest_ascent.specs.Charts.{Chart, IsCharted, IsEndAt, own_grid, step_of, GainsEnds, StaysWithin}
 use Rattle.steepest_ascent.specs.declared.ends.End.{End}
-use Rattle.steepest_ascent.proofs.CellFilling.{within_stays}
+use Rattle.steepest_ascent.proofs.CellFilling.{end_stays, within_stays}
 
 some_back : (n : ℕ) → 0 < n → nat_lt 0 n ≡ true
 some_back n lt = grind (arith, nat_tests)
@@ -81,3 +82,26 @@ pub past_cell : (t : Chart) (own : Axes) (ends : List End) (i : ℕ) → IsChart
     → StaysWithin t ends i
 past_cell t own ends i h ge none =
     ap (λ s. leads_within (own_grid t) i s) (get_or_past t.steps i Stay (subst (λ n. n ≤ i) (sym h.one_each) ge))
+
+-- the voxels of the rows that have their ends, and one row more
+pub ends_more : (t : Chart) (before after : List End) (y z : ℕ)
+    → ((i : ℕ) → i < voxel_at (own_grid t) 0 y z → IsEndAt t i (end_at before i)) → GainsEnds t before after
+    → ((x : ℕ) → x < (own_grid t).nx → IsEndAt t (voxel_at (own_grid t) x y z) (end_at after (voxel_at (own_grid t) x y z)))
+    → (i : ℕ) → i < voxel_at (own_grid t) 0 (y + 1) z → IsEndAt t i (end_at after i)
+ends_more t before after y z done gains row i lt = elim (cases_lt i (voxel_at (own_grid t) 0 y z)) [
+  | inl less ↦ end_stays t i before after gains (done i less)
+  | inr ge ↦ (let x : ℕ = i - voxel_at (own_grid t) 0 y z in
+      let is : voxel_at (own_grid t) x y z ≡ i = omega arith in
+      subst (λ j. IsEndAt t j (end_at after j)) is (row x (omega arith)))
+]
+
+-- the voxels of a row that have theirs, and one more
+pub end_more : (t : Chart) (before after : List End) (x y z : ℕ)
+    → ((k : ℕ) → k < x → IsEndAt t (voxel_at (own_grid t) k y z) (end_at before (voxel_at (own_grid t) k y z)))
+    → GainsEnds t before after → IsEndAt t (voxel_at (own_grid t) x y z) (end_at after (voxel_at (own_grid t) x y z))
+    → (k : ℕ) → k < x + 1 → IsEndAt t (voxel_at (own_grid t) k y z) (end_at after (voxel_at (own_grid t) k y z))
+end_more t before after x y z done gains here k lt = elim (cases_lt k x) [
+  | inl less ↦ end_stays t (voxel_at (own_grid t) k y z) before after gains (done k less)
+  | inr ge ↦ (let is : x ≡ k = omega arith in
+      subst (λ j. IsEndAt t (voxel_at (own_grid t) j y z) (end_at after (voxel_at (own_grid t) j y z))) is here)
+]

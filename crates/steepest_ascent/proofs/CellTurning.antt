@@ -1,16 +1,18 @@
 -- How the ascent goes on from a voxel of a cell, and where its end is known.
-use Rattle.std.proofs.Common.{◌≡◌, ◌≢◌, ℕ, ◌+◌, ◌*◌, ◌<◌, List, get_or, min, true, false, refl, sym, ◌∙◌, ap, subst, arith, mul-pos}
+use Rattle.std.proofs.Common.{◌≡◌, ◌≢◌, ℕ, ◌+◌, ◌<◌, List, get_or, true, false, refl, sym, ◌∙◌, ap, subst, arith}
 use Rattle.std.proofs.lemmas.List.{get_or_read}
 use Rattle.agglo_model.specs.Axes.{Axes, IsPlace, voxel_at, voxel_count}
-use Rattle.agglo_model.proofs.BoxPlaces.{IsBoxPlace, box_limits, box_voxel-lt, box_voxel-place, box_voxel_in, place_of_box}
+use Rattle.agglo_model.proofs.BoxPlaces.{IsBoxPlace, box_voxel-lt, box_voxel-place, box_voxel_in, place_of_box}
+use Rattle.agglo_model.proofs.Places.{voxel_at-lt}
 use Rattle.edge_order.specs.Steps.{IsBestStep, LeadsTo, leads_within, reversed, steps_within}
 use Rattle.edge_order.specs.declared.step.Step.{Step}
-use Rattle.edge_order.specs.declared.step.Step.TheVariants.{Stay, BackX, BackY, BackZ, OnX, OnY, OnZ}
-use Rattle.edge_order.proofs.StepPlaces.{best_within, box_leads, leads_at_place, leaves_box}
+use Rattle.edge_order.specs.declared.step.Step.TheVariants.{Stay}
+use Rattle.edge_order.proofs.StepPlaces.{best_within, box_leads, leads_at_place, leaves_box, same_end}
 use Rattle.steepest_ascent.specs.CellEnds.{IsInCell}
-use Rattle.steepest_ascent.specs.Charts.{Chart, IsCharted, ClimbsWithin, own_grid, step_of, voxel_of}
-use Rattle.steepest_ascent.specs.Turns.{EndsWith}
-use Rattle.steepest_ascent.proofs.Turning.{ends_with, climbs_to}
+use Rattle.steepest_ascent.specs.Charts.{Chart, IsCharted, own_grid, step_of, voxel_of}
+use Rattle.steepest_ascent.specs.CellTurns.{ClimbsWithin, EndsWithin, IsSpot}
+use Rattle.steepest_ascent.specs.declared.cell_ascent.Spot.{Spot}
+use Rattle.steepest_ascent.proofs.Turning.{ends_with, ends_there, climbs_to}
 
 -- the place of a voxel of the cell
 pub cell_place : (t : Chart) (own : Axes) (i : ℕ) → IsCharted t own → i < voxel_count (own_grid t)
@@ -60,68 +62,66 @@ pub leads_in_cell : (t : Chart) (own : Axes) (i j : ℕ) (s : Step) → IsCharte
 leads_in_cell t own i j s h lt within leads =
     box_leads t.grid.axes t.cell.lo t.cell.hi i j s h.box (cell_place t own i h lt) within leads
 
--- of the two, the lower in the cell is the lower in the volume
-lower_first : (f : ℕ → ℕ) (i j v w : ℕ) → i < j → v < w → v ≡ f i → f (min i j) ≡ min v w
-lower_first f i j v w lt less is =
-    let e : min i j ≡ i = omega arith in
-    let m : min v w ≡ v = omega arith in
-    ap f e ∙ sym is ∙ sym m
+-- a step from a voxel of the cell to another leads to the same voxel by both of its numbers
+pub far_spot : (t : Chart) (own : Axes) (here far : Spot) (s : Step) → IsCharted t own → IsSpot t here
+    → far.own < voxel_count (own_grid t) → leads_within (own_grid t) here.own s ≡ true
+    → LeadsTo (own_grid t) here.own s far.own → LeadsTo t.grid.axes here.voxel s far.voxel → IsSpot t far
+far_spot t own here far s h spot lt within leads to = record {
+  in_cell = lt;
+  same = same_end t.grid.axes here.voxel (voxel_of t far.own) far.voxel s
+      (subst (λ v. LeadsTo t.grid.axes v s (voxel_of t far.own)) spot.same
+      (leads_in_cell t own here.own far.own s h spot.in_cell within leads)) to;
+}
 
-lower_second : (f : ℕ → ℕ) (i j v w : ℕ) → j < i → w < v → w ≡ f j → f (min i j) ≡ min v w
-lower_second f i j v w lt less is =
-    let e : min i j ≡ j = omega arith in
-    let m : min v w ≡ w = omega arith in
-    ap f e ∙ sym is ∙ sym m
+-- the best step of a voxel by its number in the volume
+pub best_of_spot : (t : Chart) (own : Axes) (spot : Spot) (s : Step) → IsCharted t own → IsSpot t spot
+    → s ≡ step_of t spot.own → IsBestStep t.grid t.low spot.voxel s
+best_of_spot t own spot s h at is =
+    subst (λ v. IsBestStep t.grid t.low v s) at.same (best_in_cell t own spot.own s h at.in_cell is)
 
-apart_back : (b w s : ℕ) → 0 < s → b + s ≡ w → b < w
-apart_back b w s some is = omega arith
-
-apart_on : (b w s : ℕ) → 0 < s → w ≡ b + s → b < w
-apart_on b w s some is = omega arith
-
--- the least of both
-pub least_of_two : (b a : Axes) (f : ℕ → ℕ) (i j v w : ℕ) (s : Step) → 0 < b.nx → 0 < b.nx * b.ny → 0 < a.nx
-    → 0 < a.nx * a.ny → v ≡ f i → w ≡ f j → LeadsTo b i s j → LeadsTo a v s w → f (min i j) ≡ min v w
-least_of_two b a f i j v w Stay r l m n v_is w_is p q =
-    let e : min i j ≡ i = omega arith in
-    let k : min v w ≡ v = omega arith in
-    ap f e ∙ sym v_is ∙ sym k
-least_of_two b a f i j v w BackX r l m n v_is w_is p q = lower_second f i j v w (omega arith) (omega arith) w_is
-least_of_two b a f i j v w BackY r l m n v_is w_is p q =
-    lower_second f i j v w (apart_back j i b.nx r p) (apart_back w v a.nx m q) w_is
-least_of_two b a f i j v w BackZ r l m n v_is w_is p q =
-    lower_second f i j v w (apart_back j i (b.nx * b.ny) l p) (apart_back w v (a.nx * a.ny) n q) w_is
-least_of_two b a f i j v w OnX r l m n v_is w_is p q = lower_first f i j v w (omega arith) (omega arith) v_is
-least_of_two b a f i j v w OnY r l m n v_is w_is p q =
-    lower_first f i j v w (apart_on i j b.nx r p) (apart_on v w a.nx m q) v_is
-least_of_two b a f i j v w OnZ r l m n v_is w_is p q =
-    lower_first f i j v w (apart_on i j (b.nx * b.ny) l p) (apart_on v w (a.nx * a.ny) n q) v_is
+-- which leads to a voxel of the volume
+pub spot_within : (t : Chart) (own : Axes) (spot : Spot) (s : Step) → IsCharted t own → IsSpot t spot
+    → s ≡ step_of t spot.own → leads_within t.grid.axes spot.voxel s ≡ true
+spot_within t own spot s h at is = best_within t.grid t.low spot.voxel s h.whole.limits
+    (subst (λ v. v < voxel_count t.grid.axes) at.same
+    (box_voxel-lt t.grid.axes t.cell.lo t.cell.hi spot.own h.whole.limits h.box at.in_cell))
+    (best_of_spot t own spot s h at is)
 
 -- both ends step along the same edge
-pub cell_ends : (t : Chart) (own : Axes) (i j name : ℕ) (s u : Step) → IsCharted t own → i < voxel_count (own_grid t)
-    → j < voxel_count (own_grid t) → s ≡ step_of t i → u ≡ step_of t j → s ≢ Stay
-    → leads_within (own_grid t) i s ≡ true → LeadsTo (own_grid t) i s j → u ≡ reversed s
-    → name ≡ voxel_of t (min i j) → EndsWith t.grid t.low (voxel_of t i) (name + 1)
-cell_ends t own i j name s u h lt far s_is u_is moves within leads back name_is =
-    let a : Axes = t.grid.axes in
-    let b : Axes = own_grid t in
-    let limits = h.whole.limits in
-    let small = box_limits a t.cell.lo t.cell.hi limits h.box in
-    let to : LeadsTo a (voxel_of t i) s (voxel_of t j) = leads_in_cell t own i j s h lt within leads in
-    let least : voxel_of t (min i j) ≡ min (voxel_of t i) (voxel_of t j) =
-    least_of_two b a (voxel_of t) i j (voxel_of t i) (voxel_of t j) s small.some_x (mul-pos small.some_x small.some_y)
-    limits.some_x (mul-pos limits.some_x limits.some_y) refl refl leads to in
-    ends_with t.grid t.low (voxel_of t i) (voxel_of t j) (name + 1) s u (best_in_cell t own i s h lt s_is) moves to
-    (best_in_cell t own j u h far u_is) back (ap (λ n. n + 1) (name_is ∙ least))
+pub cell_ends : (t : Chart) (own : Axes) (here far : Spot) (s u : Step) → IsCharted t own → IsSpot t here
+    → IsSpot t far → s ≡ step_of t here.own → u ≡ step_of t far.own → s ≢ Stay
+    → LeadsTo t.grid.axes here.voxel s far.voxel → u ≡ reversed s → EndsWithin t here far
+cell_ends t own here far s u h at there s_is u_is moves to back =
+    let best = best_of_spot t own here s h at s_is in
+    let far_best = best_of_spot t own far u h there u_is in
+    record {
+      far_spot = there;
+      here = ends_with t.grid t.low here.voxel far.voxel _ s u best moves to far_best back refl;
+      there = ends_there t.grid t.low here.voxel far.voxel _ s u best moves to far_best back refl;
+    }
 
 -- the far end steps along another edge
-pub cell_climbs : (t : Chart) (own : Axes) (i j : ℕ) (s u : Step) → IsCharted t own → i < voxel_count (own_grid t)
-    → j < voxel_count (own_grid t) → s ≡ step_of t i → u ≡ step_of t j → s ≢ Stay
-    → leads_within (own_grid t) i s ≡ true → LeadsTo (own_grid t) i s j → u ≢ reversed s
-    → ClimbsWithin t i j
-cell_climbs t own i j s u h lt far s_is u_is moves within leads other = record {
-  voxel = far;
-  inside = box_voxel_in t.grid.axes t.cell.lo t.cell.hi j (cell_place t own j h far);
-  climbs = climbs_to t.grid t.low (voxel_of t i) (voxel_of t j) s u h.whole.limits (best_in_cell t own i s h lt s_is)
-      moves (leads_in_cell t own i j s h lt within leads) (best_in_cell t own j u h far u_is) other;
+pub cell_climbs : (t : Chart) (own : Axes) (here next : Spot) (s u : Step) → IsCharted t own → IsSpot t here
+    → IsSpot t next → s ≡ step_of t here.own → u ≡ step_of t next.own → s ≢ Stay
+    → LeadsTo t.grid.axes here.voxel s next.voxel → u ≢ reversed s → ClimbsWithin t here next
+cell_climbs t own here next s u h at there s_is u_is moves to other = record {
+  next_spot = there;
+  inside = subst (λ v. IsInCell t.grid.axes t.cell v) there.same
+      (box_voxel_in t.grid.axes t.cell.lo t.cell.hi next.own (cell_place t own next.own h there.in_cell));
+  climbs = climbs_to t.grid t.low here.voxel next.voxel s u h.whole.limits (best_of_spot t own here s h at s_is) moves to
+      (best_of_spot t own next u h there u_is) other;
 }
+
+-- a voxel by its place in its row
+pub in_row : (a : Axes) (k y z : ℕ) → voxel_at a 0 y z + k ≡ voxel_at a k y z
+in_row a k y z = omega arith
+
+pub row_spot : (t : Chart) (k y z i v : ℕ) → IsPlace (own_grid t) k y z → i ≡ voxel_at (own_grid t) 0 y z
+    → v ≡ voxel_at t.grid.axes (get_or t.cell.lo 0 0) (get_or t.cell.lo 1 0 + y) (get_or t.cell.lo 2 0 + z)
+    → IsSpot t (record { own = i + k; voxel = v + k })
+row_spot t k y z i v place i_is v_is =
+    let here : i + k ≡ voxel_at (own_grid t) k y z = omega (arith, i_is) in
+    record {
+      in_cell = subst (λ n. n < voxel_count (own_grid t)) (sym here) (voxel_at-lt (own_grid t) k y z place);
+      same = sym (voxel_of-place t k y z (i + k) (v + k) place here (omega (arith, v_is)));
+    }

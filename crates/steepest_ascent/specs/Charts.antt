@@ -1,17 +1,13 @@
 -- What the ascents within a cell go by, and their ends while these are being filled in.
-use Rattle.std.specs.Prelude.{◌≡◌, ◌≢◌, ℕ, ◌<◌, ◌⊎◌, true, List, length, slice_index_or}
+use Rattle.std.specs.Prelude.{◌≡◌, ◌≢◌, ℕ, ◌⊎◌, true, List, length, slice_index_or}
 use Rattle.agglo_model.specs.Axes.{Axes, voxel_count}
 use Rattle.agglo_model.specs.Boxes.{IsBoxOf, box_grid, box_voxel}
 use Rattle.agglo_model.specs.Grid.{Grid, IsWhole}
-use Rattle.agglo_model.specs.EdgeOrder.{HasNoBest}
 use Rattle.edge_order.specs.Steps.{AreBoxSteps, leads_within}
 use Rattle.edge_order.specs.declared.step.Step.{Step}
 use Rattle.edge_order.specs.declared.step.Step.TheVariants.{Stay}
 use Rattle.seg_base.specs.declared.cell.Cell.{Cell}
-use Rattle.steepest_ascent.specs.CellEnds.{IsInCell, IsEndOf, end_at}
-use Rattle.steepest_ascent.specs.Turns.{EndsWith, ClimbsTo}
-use Rattle.steepest_ascent.specs.declared.ascent.Turn.{Turn}
-use Rattle.steepest_ascent.specs.declared.ascent.Turn.TheVariants.{Stays, Ends, Climbs}
+use Rattle.steepest_ascent.specs.CellEnds.{IsEndOf, end_at}
 use Rattle.steepest_ascent.specs.declared.ends.End.{End}
 use Rattle.steepest_ascent.specs.declared.ends.End.TheVariants.{Background}
 
@@ -58,15 +54,3 @@ GainsEnds t before after = (i : ℕ)
 -- where the entry is Background, the step does not lead out of the cell
 abbrev pub StaysWithin : Chart → List End → ℕ → Type 0
 StaysWithin t ends i = end_at ends i ≡ Background → leads_within (own_grid t) i (step_of t i) ≡ true
-
--- the ascent goes on from voxel i of the cell to voxel j of it
-pub record ClimbsWithin (t : Chart) (i j : ℕ) : Type 0 where
-  pub voxel : j < voxel_count (own_grid t)
-  pub inside : IsInCell t.grid.axes t.cell (voxel_of t j)
-  pub climbs : ClimbsTo t.grid t.low (voxel_of t i) (voxel_of t j)
-
--- how the ascent goes on from voxel i of the cell, whose best edge stays within it
-abbrev pub IsCellTurn : Chart → ℕ → Turn → Type 0
-IsCellTurn t i Stays = HasNoBest t.grid t.low (voxel_of t i)
-IsCellTurn t i (Ends name) = EndsWith t.grid t.low (voxel_of t i) name
-IsCellTurn t i (Climbs j) = ClimbsWithin t i j

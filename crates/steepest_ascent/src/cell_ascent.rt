@@ -5,10 +5,10 @@ ghost use Rattle.agglo_model.specs.Grid.{IsWhole};
 ghost use Rattle.edge_order.specs.Steps.{IsBestStep, LeadsTo, leads_within};
 ghost use Rattle.edge_order.specs.declared.step.Step.TheVariants.{Stay};
 ghost use Rattle.steepest_ascent.specs.CellEnds.{IsEndOf, IsInCell, end_at};
-ghost use Rattle.steepest_ascent.specs.Charts.{AreEndsSoFar, GainsEnds, IsCellTurn, IsEndAt, StaysWithin, own_grid, step_of, voxel_of};
+ghost use Rattle.steepest_ascent.specs.Charts.{AreEndsSoFar, GainsEnds, IsEndAt, StaysWithin, own_grid, step_of};
+ghost use Rattle.steepest_ascent.specs.CellTurns.{EndsWithin, IsCellTurn, IsSpot};
 ghost use Rattle.steepest_ascent.specs.declared.ends.End.TheVariants.{Background};
 
-use crate::ascent::Turn;
 use crate::ends::End;
 use agglo_model::Memory;
 use edge_order::{Step, best_step, cell_steps};
@@ -16,6 +16,24 @@ use seg_base::{Cell, Dims};
 use std::alloc::Global;
 use std::marker::Model;
 use volume_file::Volume;
+
+/// A voxel of a cell, by its number there and its number in the volume.
+#[derive(Clone, Copy)]
+pub(crate) struct Spot {
+    own: u32,
+    voxel: u32,
+}
+
+/// How the ascent goes on from a voxel of a cell to another.
+#[derive(Clone, Copy)]
+pub(crate) enum CellTurn {
+    /// The voxel is background.
+    Stays,
+    /// Its best edge is also that of this voxel, its far end.
+    Ends(Spot),
+    /// Its best edge leads on to this voxel.
+    Climbs(Spot),
+}
 
 /// A cell of a volume with the best step of each of its voxels.
 #[derive(Drop)]
@@ -139,34 +157,26 @@ impl<'a> CellAscent<'a> {
         }
     }
 
-    /// How the ascent goes on from voxel `i` of the cell, whose best step leads to another voxel of it.
-    fn turn(&self, i: u32) -> Turn
-        requires voxel { i < voxel_count (own_grid self.now) }
-        requires within { leads_within (own_grid self.now) i (step_of self.now i) ≡ true }
-        ensures turn { IsCellTurn self.now i result }
+    /// How the ascent goes on from a voxel of the cell, whose best step leads to another voxel of it.
+    fn turn(&self, here: Spot) -> CellTurn
+        requires spot { IsSpot self.now here }
+        requires within { leads_within (own_grid self.now) here.own (step_of self.now here.own) ≡ true }
+        ensures turn { IsCellTurn self.now here result }
         ensures whole { IsWhole self.now.grid }
     {
-        let step = self.steps[i as usize];
+        let step = self.steps[here.own as usize];
         if step == Step::Stay {
-            return Turn::Stays;
+            return CellTurn::Stays;
         }
-        let far = step.far_end(&self.grid, i);
-        if self.steps[far as usize] == step.reversed() {
-            Turn::Ends(self.voxel(i.min(far)) + 1)
+        let far = Spot {
+            own: step.far_end(&self.grid, here.own),
+            voxel: step.far_end(self.vol.dims(), here.voxel),
+        };
+        if self.steps[far.own as usize] == step.reversed() {
+            CellTurn::Ends(far)
         } else {
-            Turn::Climbs(far)
+            CellTurn::Climbs(far)
         }
-    }
-
-    /// The number in the volume of voxel `i` of the cell.
-    fn voxel(&self, i: u32) -> u32
-        requires { i < voxel_count (own_grid self.now) }
-        ensures value { result ≡ voxel_of self.now i }
-        ensures voxel { result < voxel_count self.now.grid.axes }
-    {
-        let [x, y, z] = self.grid.place(i);
-        let [from_x, from_y, from_z] = self.cell.lo;
-        self.vol.dims().voxel(from_x + x, from_y + y, from_z + z)
     }
 
     /// Gives each voxel its end. Those that have one keep it.
@@ -176,74 +186,106 @@ impl<'a> CellAscent<'a> {
         requires within { (i : ℕ) → StaysWithin self.now ends.old i }
         ensures { EachIndex ends.new (λ i. IsEndAt self.now i (end_at ends.new i)) }
     {
-        for i in 0..self.grid.voxels() {
-            self.settle(ends, i);
-        }
-    }
-
-    /// Gives voxel `i` its end, where it has none yet and is no background. Other voxels may gain theirs
-    /// with it.
-    fn settle(&self, ends: &mut [End], i: u32)
-        requires voxel { i < voxel_count (own_grid self.now) }
-        requires one_each { length ends.old ≡ voxel_count (own_grid self.now) }
-        requires right { AreEndsSoFar self.now ends.old }
-        requires within { (k : ℕ) → StaysWithin self.now ends.old k }
-        ensures settled { IsEndAt self.now i (end_at ends.new i) }
-        ensures gains { GainsEnds self.now ends.old ends.new }
-    {
-        if !ends[i as usize].is_background() {
-            return;
-        }
-        let end = self.end(ends, i);
-        if !end.is_background() {
-            self.give(ends, i, end);
-        }
-    }
-
-    /// The end of voxel `i`, which has none yet, found by ascent as far as the first voxel that has its end.
-    fn end(&self, ends: &[End], i: u32) -> End
-        requires voxel { i < voxel_count (own_grid self.now) }
-        requires one_each { length ends.now ≡ voxel_count (own_grid self.now) }
-        requires right { AreEndsSoFar self.now ends.now }
-        requires within { (k : ℕ) → StaysWithin self.now ends.now k }
-        requires none { end_at ends.now i ≡ Background }
-        ensures { IsEndAt self.now i result }
-    {
-        let mut here = i;
-        loop {
-            match self.turn(here) {
-                Turn::Stays => return End::Background,
-                Turn::Ends(name) => return End::Root(name),
-                Turn::Climbs(next) => {
-                    let end = ends[next as usize];
-                    if !end.is_background() {
-                        return end;
-                    }
-                    here = next;
-                }
+        for z in 0..self.grid.nz() {
+            for y in 0..self.grid.ny() {
+                self.settle_row(ends, y, z);
             }
         }
     }
 
-    /// Gives its end to voxel `i`, and to those without one to which the ascent from it leads.
+    /// The same for the row of voxels at these coordinates in the cell. Other voxels may gain their ends
+    /// with them.
+    fn settle_row(&self, ends: &mut [End], y: u32, z: u32)
+        requires in_y { y < (own_grid self.now).ny }
+        requires in_z { z < (own_grid self.now).nz }
+        requires one_each { length ends.old ≡ voxel_count (own_grid self.now) }
+        requires right { AreEndsSoFar self.now ends.old }
+        requires within { (i : ℕ) → StaysWithin self.now ends.old i }
+        ensures gains { GainsEnds self.now ends.old ends.new }
+        ensures settled { (x : ℕ) → x < (own_grid self.now).nx
+            → IsEndAt self.now (voxel_at (own_grid self.now) x y z) (end_at ends.new (voxel_at (own_grid self.now) x y z)) }
+    {
+        let [from_x, from_y, from_z] = self.cell.lo;
+        let own = self.grid.voxel(0, y, z);
+        let voxel = self.vol.dims().voxel(from_x, from_y + y, from_z + z);
+        for x in 0..self.grid.nx() {
+            let here = Spot {
+                own: own + x,
+                voxel: voxel + x,
+            };
+            self.settle(ends, here);
+        }
+    }
+
+    /// Gives a voxel its end, where it has none yet and is no background. Other voxels may gain theirs
+    /// with it.
+    fn settle(&self, ends: &mut [End], here: Spot)
+        requires spot { IsSpot self.now here }
+        requires one_each { length ends.old ≡ voxel_count (own_grid self.now) }
+        requires right { AreEndsSoFar self.now ends.old }
+        requires within { (i : ℕ) → StaysWithin self.now ends.old i }
+        ensures settled { IsEndAt self.now here.own (end_at ends.new here.own) }
+        ensures gains { GainsEnds self.now ends.old ends.new }
+    {
+        let end = self.find(ends, here);
+        if !end.is_background() {
+            self.give(ends, here.own, end);
+        }
+    }
+
+    /// The end of a voxel, found by ascent as far as the first that has its end. Where there is none,
+    /// the voxels of the basin's strongest edge gain theirs.
+    fn find(&self, ends: &mut [End], from: Spot) -> End
+        requires spot { IsSpot self.now from }
+        requires one_each { length ends.old ≡ voxel_count (own_grid self.now) }
+        requires right { AreEndsSoFar self.now ends.old }
+        requires within { (i : ℕ) → StaysWithin self.now ends.old i }
+        ensures end { IsEndAt self.now from.own result }
+        ensures gains { GainsEnds self.now ends.old ends.new }
+    {
+        let mut here = from;
+        loop {
+            let end = ends[here.own as usize];
+            if !end.is_background() {
+                return end;
+            }
+            match self.turn(here) {
+                CellTurn::Stays => return End::Background,
+                CellTurn::Ends(far) => return self.mark_root(ends, here, far),
+                CellTurn::Climbs(next) => here = next,
+            }
+        }
+    }
+
+    /// Gives both voxels of an edge that is the best of both their end.
+    fn mark_root(&self, ends: &mut [End], here: Spot, far: Spot) -> End
+        requires whole { IsWhole self.now.grid }
+        requires ends { EndsWithin self.now here far }
+        requires spot { IsSpot self.now here }
+        requires one_each { length ends.old ≡ voxel_count (own_grid self.now) }
+        ensures end { IsEndAt self.now here.own result }
+        ensures gains { GainsEnds self.now ends.old ends.new }
+    {
+        let end = End::Root(here.voxel.min(far.voxel) + 1);
+        ends[here.own as usize] = end;
+        ends[far.own as usize] = end;
+        end
+    }
+
+    /// Gives its end to voxel `i` of the cell, and to those without one to which the ascent from it leads.
     fn give(&self, ends: &mut [End], i: u32, end: End)
         requires voxel { i < voxel_count (own_grid self.now) }
         requires one_each { length ends.old ≡ voxel_count (own_grid self.now) }
         requires within { (k : ℕ) → StaysWithin self.now ends.old k }
-        requires none { end_at ends.old i ≡ Background }
         requires right { IsEndAt self.now i end }
         requires known { end ≢ Background }
-        ensures given { end_at ends.new i ≡ end }
+        ensures given { end_at ends.new i ≢ Background }
         ensures gains { GainsEnds self.now ends.old ends.new }
     {
-        ends[i as usize] = end;
         let mut here = i;
-        while let Turn::Climbs(next) = self.turn(here) {
-            if !ends[next as usize].is_background() {
-                return;
-            }
-            ends[next as usize] = end;
-            here = next;
+        while ends[here as usize].is_background() {
+            ends[here as usize] = end;
+            here = self.steps[here as usize].far_end(&self.grid, here);
         }
     }
 }
