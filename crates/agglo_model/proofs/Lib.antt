@@ -7,6 +7,7 @@ pub mod Totals
 pub mod ContactEdges
 pub mod FirstPairs
 pub mod Places
+pub mod BoxPlaces
 pub mod Rounding
 pub mod Levels
 pub mod NodeCells

@@ -15,6 +15,7 @@ pub mod Note
 pub mod Report
 pub mod GreedyExamples
 pub mod Cell
+pub mod Boxes
 pub mod Cutting
 pub mod CuttingExamples
 pub mod CuttingLaws

@@ -1,3 +1,4 @@
 pub mod Tracks
 pub mod Steps
+pub mod StepPlaces
 pub mod RowKeys

@@ -32,7 +32,7 @@ step_of_rank r = if r == 7 then BackX else (if r == 6 then BackY else (if r == 5
 abbrev pub step_of_key : ℕ → ℕ → Step
 step_of_key low best = if nat_lt (best / 8) low then Stay else step_of_rank (best % 8)
 
--- each entry is the greatest key at its voxel, in the row of voxels at y and z
-abbrev pub AreRowKeys : Grid → ℕ → ℕ → List ℕ → Type 0
-AreRowKeys g y z keys = (low x : ℕ) → x < length keys
-    → IsBestStep g low (voxel_at g.axes x y z) (step_of_key low (slice_index keys x))
+-- each entry is the greatest key at its voxel, in the row of voxels from the place x, y, z on
+abbrev pub AreRowKeys : Grid → ℕ → ℕ → ℕ → List ℕ → Type 0
+AreRowKeys g x y z keys = (low i : ℕ) → i < length keys
+    → IsBestStep g low (voxel_at g.axes (x + i) y z) (step_of_key low (slice_index keys i))

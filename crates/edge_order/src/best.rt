@@ -26,12 +26,20 @@ pub fn best_edge(vol: &Volume, low: u8, v: u32) -> Option<u32>
     requires { v < voxel_count vol.now.axes }
     ensures { MatchOption result (HasNoBest vol.now low v) (λ e. IsBest vol.now low v e) }
 {
+    best_step(vol, low, v).edge(vol.dims(), v)
+}
+
+/// The step along the best edge of voxel `v`.
+pub fn best_step(vol: &Volume, low: u8, v: u32) -> Step
+    requires { v < voxel_count vol.now.axes }
+    ensures { IsBestStep vol.now low v result }
+{
     let place = vol.dims().place(v);
-    best_step(vol, low, v, place).edge(vol.dims(), v)
+    step_at_place(vol, low, v, place)
 }
 
 /// The step along the best edge of voxel `v`, which lies at this place.
-fn best_step(vol: &Volume, low: u8, v: u32, place: [u32; 3]) -> Step
+fn step_at_place(vol: &Volume, low: u8, v: u32, place: [u32; 3]) -> Step
     requires voxel { v < voxel_count vol.now.axes }
     requires place { place ≡ place_of vol.now.axes v }
     ensures { IsBestStep vol.now low v result }

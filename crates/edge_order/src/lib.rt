@@ -9,6 +9,6 @@ mod step;
 #[cfg(test)]
 mod tests;
 
-pub use best::{best_edge, stronger};
-pub use rows::best_steps;
+pub use best::{best_edge, best_step, stronger};
+pub use rows::{best_steps, cell_steps};
 pub use step::Step;

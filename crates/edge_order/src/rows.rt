@@ -1,10 +1,12 @@
 ghost use Rattle.std.specs.Prelude.{◌≡◌, ℕ, ◌+◌, ◌*◌, ◌<◌, ◌≤◌, ◌++◌, ◌&&◌, EachIndex, IfOk, IsTrue, length, map, nat_le, nat_lt, slice_index};
 ghost use Rattle.agglo_model.specs.Axes.{voxel_at, voxel_count};
+ghost use Rattle.agglo_model.specs.Boxes.{IsBoxOf, box_grid};
 ghost use Rattle.edge_order.specs.Keys.{AreRowKeys, key, raised, step_of_key};
-ghost use Rattle.edge_order.specs.Steps.{AreBestSteps};
+ghost use Rattle.edge_order.specs.Steps.{AreBestSteps, AreBoxSteps};
 
 use crate::step::Step;
 use agglo_model::Memory;
+use seg_base::Cell;
 use std::alloc::Global;
 use volume_file::Volume;
 
@@ -13,59 +15,75 @@ pub fn best_steps(alloc: Global, vol: &Volume, low: u8) -> Result<Vec<Step>, Mem
     ensures one_each { IfOk result (λ steps. length steps.items ≡ voxel_count vol.now.axes) }
     ensures best { IfOk result (λ steps. AreBestSteps vol.now low steps.items) }
 {
-    let dims = vol.dims();
-    let mut steps = Vec::with_capacity(alloc, dims.voxels() as usize)?;
-    let mut keys = Vec::from_elem(alloc, 0, dims.nx() as usize)?;
-    for z in 0..dims.nz() {
-        for y in 0..dims.ny() {
-            push_row(&mut steps, &mut keys, vol, low, y, z)?;
+    cell_steps(alloc, vol, low, &Cell::whole(vol.dims()))
+}
+
+/// The step along the best edge of each voxel of a cell, with x fastest, then y, then z.
+pub fn cell_steps(alloc: Global, vol: &Volume, low: u8, cell: &Cell) -> Result<Vec<Step>, Memory>
+    requires { IsBoxOf vol.now.axes cell.now.lo cell.now.hi }
+    ensures one_each { IfOk result (λ steps. length steps.items ≡ voxel_count (box_grid cell.now.lo cell.now.hi)) }
+    ensures best { IfOk result (λ steps. AreBoxSteps vol.now low cell.now.lo cell.now.hi steps.items) }
+{
+    let grid = cell.grid(vol.dims());
+    let mut steps = Vec::with_capacity(alloc, grid.voxels() as usize)?;
+    let mut keys = Vec::from_elem(alloc, 0, grid.nx() as usize)?;
+    for z in 0..grid.nz() {
+        for y in 0..grid.ny() {
+            push_row(&mut steps, &mut keys, vol, low, cell, y, z)?;
         }
     }
     Ok(steps)
 }
 
-/// Appends the steps of the row of voxels at these coordinates. The keys are room for its own.
+/// Appends the steps of the row of voxels at these coordinates in the cell. The keys are room for its
+/// own.
 fn push_row(
     steps: &mut Vec<Step>,
     keys: &mut [u16],
     vol: &Volume,
     low: u8,
+    cell: &Cell,
     y: u32,
     z: u32,
 ) -> Result<(), Memory>
-    requires in_y { y < vol.now.axes.ny }
-    requires in_z { z < vol.now.axes.nz }
-    requires room { length keys.old ≡ vol.now.axes.nx }
-    requires so_far { length steps.old.items ≡ voxel_at vol.now.axes 0 y z }
-    requires best { AreBestSteps vol.now low steps.old.items }
-    ensures a_row { IfOk result (λ _. length steps.new.items ≡ length steps.old.items + vol.now.axes.nx) }
-    ensures still_best { IfOk result (λ _. AreBestSteps vol.now low steps.new.items) }
+    requires in_volume { IsBoxOf vol.now.axes cell.now.lo cell.now.hi }
+    requires in_y { y < (box_grid cell.now.lo cell.now.hi).ny }
+    requires in_z { z < (box_grid cell.now.lo cell.now.hi).nz }
+    requires room { length keys.old ≡ (box_grid cell.now.lo cell.now.hi).nx }
+    requires so_far { length steps.old.items ≡ voxel_at (box_grid cell.now.lo cell.now.hi) 0 y z }
+    requires best { AreBoxSteps vol.now low cell.now.lo cell.now.hi steps.old.items }
+    ensures a_row { IfOk result (λ _. length steps.new.items ≡ length steps.old.items + (box_grid cell.now.lo cell.now.hi).nx) }
+    ensures still_best { IfOk result (λ _. AreBoxSteps vol.now low cell.now.lo cell.now.hi steps.new.items) }
 {
-    find_keys(keys, vol, y, z);
+    let [from_x, from_y, from_z] = cell.lo;
+    find_keys(keys, vol, from_x, from_y + y, from_z + z);
     for key in keys.iter() {
         steps.push(Step::of_key(*key, low))?;
     }
     Ok(())
 }
 
-/// The greatest key of each voxel of the row at these coordinates.
-fn find_keys(keys: &mut [u16], vol: &Volume, y: u32, z: u32)
+/// The greatest key of each voxel of the row from this place on, as many as there are keys.
+fn find_keys(keys: &mut [u16], vol: &Volume, x: u32, y: u32, z: u32)
+    requires some { 0 < length keys.old }
+    requires in_x { x + length keys.old ≤ vol.now.axes.nx }
     requires in_y { y < vol.now.axes.ny }
     requires in_z { z < vol.now.axes.nz }
-    requires room { length keys.old ≡ vol.now.axes.nx }
-    ensures { AreRowKeys vol.now y z keys.new }
+    ensures { AreRowKeys vol.now x y z keys.new }
 {
     let dims = vol.dims();
     let bytes = vol.bytes();
-    let first = 3 * dims.voxel(0, y, z) as usize;
+    let first = 3 * dims.voxel(x, y, z) as usize;
     let row = 3 * dims.nx() as usize;
     let layer = row * dims.ny() as usize;
     let width = keys.len();
+    let from = 1usize.saturating_sub(x as usize);
+    let to = width.min((dims.nx() - 1 - x) as usize);
     keys.fill(0);
-    raise(keys, bytes, first, Step::BackX, 1, width);
+    raise(keys, bytes, first, Step::BackX, from, width);
     raise_all(keys, bytes, first + 1, Step::BackY, y > 0);
     raise_all(keys, bytes, first + 2, Step::BackZ, z > 0);
-    raise(keys, bytes, first + 3, Step::OnX, 0, width - 1);
+    raise(keys, bytes, first + 3, Step::OnX, 0, to);
     raise_all(keys, bytes, first + row + 1, Step::OnY, y + 1 < dims.ny());
     raise_all(keys, bytes, first + layer + 2, Step::OnZ, z + 1 < dims.nz());
 }

@@ -1,7 +1,7 @@
-ghost use Rattle.std.specs.Prelude.{◌≡◌, ◌<◌};
-ghost use Rattle.agglo_model.specs.Axes.{voxel_count};
+ghost use Rattle.std.specs.Prelude.{◌≡◌, ◌<◌, true};
+ghost use Rattle.agglo_model.specs.Axes.{IsPlace, voxel_count};
 ghost use Rattle.edge_order.specs.Keys.{key, rank, step_of_key};
-ghost use Rattle.edge_order.specs.Steps.{edge_at, reversed};
+ghost use Rattle.edge_order.specs.Steps.{LeadsTo, edge_at, leads_within, reversed, steps_within};
 
 use seg_base::Dims;
 
@@ -93,6 +93,42 @@ impl Step {
             Step::OnX => Some(3 * (v + 1)),
             Step::OnY => Some(3 * (v + row) + 1),
             Step::OnZ => Some(3 * (v + layer) + 2),
+        }
+    }
+
+    /// Whether this step leads from a place to another place of the grid, or stays.
+    pub fn leads_within(self, dims: &Dims, x: u32, y: u32, z: u32) -> bool
+        requires { IsPlace dims.now x y z }
+        ensures { result ≡ steps_within dims.now x y z self }
+    {
+        match self {
+            Step::Stay => true,
+            Step::BackX => x > 0,
+            Step::BackY => y > 0,
+            Step::BackZ => z > 0,
+            Step::OnX => dims.nx() > x + 1,
+            Step::OnY => dims.ny() > y + 1,
+            Step::OnZ => dims.nz() > z + 1,
+        }
+    }
+
+    /// The voxel to which this step leads from voxel `v`. It does not lead out of the grid.
+    pub fn far_end(self, dims: &Dims, v: u32) -> u32
+        requires voxel { v < voxel_count dims.now }
+        requires within { leads_within dims.now v self ≡ true }
+        ensures leads { LeadsTo dims.now v self result }
+        ensures voxel { result < voxel_count dims.now }
+    {
+        let row = dims.nx();
+        let layer = row * dims.ny();
+        match self {
+            Step::Stay => v,
+            Step::BackX => v - 1,
+            Step::BackY => v - row,
+            Step::BackZ => v - layer,
+            Step::OnX => v + 1,
+            Step::OnY => v + row,
+            Step::OnZ => v + layer,
         }
     }
 }

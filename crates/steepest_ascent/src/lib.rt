@@ -5,7 +5,12 @@
 
 mod ascent;
 mod basins;
+mod cell_ascent;
+mod climbing;
+mod ends;
 #[cfg(test)]
 mod tests;
 
 pub use basins::whole_basins;
+pub use climbing::climb;
+pub use ends::{End, Ends};

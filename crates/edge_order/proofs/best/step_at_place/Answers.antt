@@ -5,7 +5,7 @@ use Rattle.edge_order.specs.Keys.{key, raised}
 use Rattle.edge_order.specs.Steps.{IsBestStep}
 use Rattle.edge_order.specs.declared.step.Step.TheVariants.{BackX, BackY, BackZ, OnX, OnY, OnZ}
 use Rattle.edge_order.proofs.Tracks.{best_of_six, edge_below, edge_on_x, edge_on_y, edge_on_z, layer-le}
-use Rattle.edge_order.proofs.best.best_step.Goals as goal
+use Rattle.edge_order.proofs.best.step_at_place.Goals as goal
 
 pub raised-best-requires-4 : goal.raised-best-requires-4
 raised-best-requires-4 c =

@@ -1,0 +1,13 @@
+//! The basins of a volume from the ascents within its pieces: an ascent that leaves a piece is followed
+//! from face to face.
+//!
+//! It stands on `steepest_ascent`, which climbs within a piece, and on `chunk_tree`, which cuts a volume
+//! into pieces. The run that climbs all pieces stands on it.
+#![tactic(auto)]
+
+mod exits;
+mod resolve;
+#[cfg(test)]
+mod tests;
+
+pub use resolve::resolve;
