@@ -13,6 +13,15 @@ pub mod NodeCells
 pub mod Names
 pub mod Worked
 pub mod Means
+pub mod Members
+pub mod GraphContacts
+pub mod GraphMerges
+pub mod GraphEdges
+pub mod EdgeLists
+pub mod RegionLists
+pub mod GraphAfter
+pub mod GraphFirsts
+pub mod GraphRounds
 pub mod Renames
 pub mod Reducible
 pub mod Neighbours
