@@ -23,16 +23,29 @@ pub tie_below : (es : List GraphEdge) (e : GraphEdge) → Contains es e → e.co
 tie_below es e (k, below, same) =
     subst (λ z. z.contact.tie ≤ past_ties es) same (get_or-le-sum_by (λ z. z.contact.tie) es k e below)
 
+-- what it is for a contact not to come before another
+record IsNotBefore (c e : Contact) : Type 0 where
+  mean : c.sum * e.count ≤ e.sum * c.count
+  tie : c.sum * e.count ≡ e.sum * c.count → e.tie ≤ c.tie
+
+not_before : (c e : Contact) → ¬ (Before c e) → IsNotBefore c e
+not_before c e no =
+    let mean : e.sum * c.count < c.sum * e.count → ⊥ = λ h. no (inl h) in
+    record {
+      mean = omega (arith, mean);
+      tie = λ same. let tie : c.tie < e.tie → ⊥ = λ h. no (inr (same, h)) in omega (arith, tie);
+    }
+
 -- two contacts that don't come before a third, added up, don't either
 pub not_before-added : (c d e : Contact) → ¬ (Before c e) → ¬ (Before d e) → ¬ (Before (added c d) e)
-not_before-added c d e one other before =
-    numbers c.sum c.count c.tie d.sum d.count d.tie e.sum e.count e.tie one other before
+not_before-added c d e no no' before = by_cases (not_before c e no) (not_before d e no') before
   where
-    numbers : (cs cc ct ds dc dt es ec et : ℕ)
-        → ((es * cc < cs * ec) ⊎ ((cs * ec ≡ es * cc) × (ct < et)) → ⊥)
-        → ((es * dc < ds * ec) ⊎ ((ds * ec ≡ es * dc) × (dt < et)) → ⊥)
-        → (es * (cc + dc) < (cs + ds) * ec) ⊎ (((cs + ds) * ec ≡ es * (cc + dc)) × (min ct dt < et)) → ⊥
-    numbers cs cc ct ds dc dt es ec et one other before = omega (arith, one, other, before)
+    by_cases : IsNotBefore c e → IsNotBefore d e → Before (added c d) e → ⊥
+    by_cases one other (inl less) = omega (arith, one.mean, other.mean, less)
+    by_cases one other (inr (same, tie)) =
+        let first = one.tie (omega (arith, one.mean, other.mean, same)) in
+        let second = other.tie (omega (arith, one.mean, other.mean, same)) in
+        omega (arith, first, second, tie)
 
 -- where two names are not in contact, their contact is none
 pub contact_in-none : (graph : RegionGraph) → IsGraph graph → (past x y : ℕ)
