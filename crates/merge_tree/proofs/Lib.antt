@@ -1,1 +1,4 @@
 mod Blocks
+mod Reordered
+mod Ranks
+mod FinalNames

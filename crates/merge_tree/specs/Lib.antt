@@ -1,2 +1,4 @@
 pub use Rattle.agglo_model.specs.LabelFile
 pub use Rattle.agglo_model.specs.LabelMap
+pub mod Renaming
+pub mod Order

@@ -1,8 +1,16 @@
-//! What a segmentation is written as: the label file.
+//! What a segmentation is made of and written as: merges, what they do to labels, their order, and
+//! the label file.
 //!
-//! It stands on `seg_base` for labels and on `seg_io` for the desk; the top call writes through it.
+//! It stands on `mean_fraction` for contacts, on `seg_base` for labels and on `seg_io` for the desk;
+//! agglomeration and the top call stand on it.
 #![tactic(auto)]
 
 mod label_file;
+mod merge;
+mod order;
+mod renaming;
 
 pub use label_file::put_labels;
+pub use merge::Merge;
+pub use order::in_order;
+pub use renaming::apply;

@@ -1,8 +1,7 @@
-use Rattle.std.proofs.Common.{◌≡◌, ◌+◌, ◌-◌, ◌≤◌, length, take, drop, arith, ap, ◌∙◌}
+use Rattle.std.proofs.Common.{◌≡◌, take, drop, arith, ap, ◌∙◌}
 use Rattle.std.specs.List.{flat_map}
 use Rattle.std.proofs.lemmas.Result.{err_from_is_err_and}
 use Rattle.agglo_model.specs.LabelFile.{u32_bytes}
-use Rattle.seg_io.proofs.Piecing.{Puts-open, Puts-sound}
 use Rattle.merge_tree.proofs.Blocks.{block_put, block_fails}
 use Rattle.merge_tree.proofs.label_file.put_list.Goals as goal
 

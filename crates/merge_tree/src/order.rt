@@ -1,0 +1,40 @@
+ghost use Rattle.std.specs.Prelude.{◌≡◌, IfOk, All, AllPairs, IsPermutation};
+ghost use Rattle.std.specs.Ordering.{is_lt};
+ghost use Rattle.agglo_model.specs.MergeLaws.{AreFalling};
+ghost use Rattle.merge_tree.specs.Order.{goes_first, HasEdges, DifferInRank, ComesFirst};
+
+use crate::merge::Merge;
+use agglo_model::Memory;
+use mean_fraction::rank;
+use std::alloc::Global;
+use std::cmp::Ordering;
+
+/// The merges in pair order: the one with the greatest mean first, and of equal means the one with
+/// the smallest tie. They are sorted where they stand, so no memory is taken.
+pub fn in_order(_alloc: Global, merges: Vec<Merge>) -> Result<Vec<Merge>, Memory>
+    requires { AllPairs DifferInRank merges.items }
+    ensures { IfOk result (λ sorted. IsPermutation merges.items sorted.items
+        × AreFalling sorted.items × AllPairs ComesFirst sorted.items) }
+{
+    have_edges(&merges);
+    let mut sorted = merges;
+    sorted.sort_unstable_by(|a, b| compare(a, b));
+    Ok(sorted)
+}
+
+/// Compares two merges by their contacts: the one that comes first in pair order is the less.
+fn compare(a: &Merge, b: &Merge) -> Ordering
+    ensures { is_lt result ≡ goes_first a.now b.now }
+{
+    let _edges = (a.contact.count(), b.contact.count());
+    rank(&b.contact, &a.contact)
+}
+
+/// Says for a whole list what is so of each contact, that it has an edge. It does nothing.
+fn have_edges(merges: &[Merge])
+    ensures { All HasEdges merges.now }
+{
+    for merge in merges {
+        let _edges = merge.contact.count();
+    }
+}
