@@ -1,5 +1,5 @@
-//! What a segmentation is made of and written as: merges, what they do to labels, their order, and
-//! the label file.
+//! What a segmentation is made of and written as: merges, what they do to labels and their order, and
+//! the two files, of labels and of merges.
 //!
 //! It stands on `mean_fraction` for contacts, on `seg_base` for labels and on `seg_io` for the desk;
 //! agglomeration and the top call stand on it.
@@ -9,8 +9,12 @@ mod label_file;
 mod merge;
 mod order;
 mod renaming;
+mod tree;
+mod tree_file;
 
 pub use label_file::put_labels;
 pub use merge::Merge;
 pub use order::in_order;
 pub use renaming::apply;
+pub use tree::Tree;
+pub use tree_file::put_tree;
