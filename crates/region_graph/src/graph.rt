@@ -40,6 +40,19 @@ impl Model for Edge {
     ghost inverse = { λ e. record { a = e.a; b = e.b; contact = e.contact } };
 }
 
+impl Edge {
+    ghost use Rattle.std.specs.Prelude.{◌≡◌, ◌+◌, ◌*◌};
+
+    /// A number that is smaller, the earlier the edge stands in a graph.
+    pub(crate) fn place(&self) -> u64
+        ensures { result ≡ 4294967296 * self.now.a + self.now.b }
+    {
+        let a = self.a;
+        let b = self.b;
+        4_294_967_296 * u64::from(a) + u64::from(b)
+    }
+}
+
 /// Regions by ascending name, and edges between them by ascending names of both ends, each once. All
 /// contacts together have at most as many edges of the grid as the largest volume.
 #[derive(Drop)]

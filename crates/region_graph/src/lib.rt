@@ -7,6 +7,8 @@
 
 mod graph;
 mod site;
+mod sums;
 
 pub use graph::{Edge, Graph, Parts, Region, Residue};
 pub use site::Site;
+pub use sums::{join_regions, sum_contacts};
