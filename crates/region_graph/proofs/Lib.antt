@@ -1,1 +1,4 @@
 pub mod RegionLists
+pub mod Gaining
+pub mod EdgeSums
+pub mod RegionSums

@@ -41,15 +41,18 @@ impl Model for Edge {
 }
 
 impl Edge {
-    ghost use Rattle.std.specs.Prelude.{◌≡◌, ◌+◌, ◌*◌};
+    ghost use Rattle.std.specs.Prelude.{◌≡◌};
+    ghost use Rattle.region_graph.specs.Lists.{IsFit, order_of};
 
     /// A number that is smaller, the earlier the edge stands in a graph.
-    pub(crate) fn place(&self) -> u64
-        ensures { result ≡ 4294967296 * self.now.a + self.now.b }
+    pub(crate) fn order(&self) -> u64
+        ensures value { result ≡ order_of self.now }
+        ensures fits { IsFit self.now }
     {
         let a = self.a;
         let b = self.b;
-        4_294_967_296 * u64::from(a) + u64::from(b)
+        let _ = self.contact.count();
+        (u64::from(a) << 32) + u64::from(b)
     }
 }
 

@@ -1,7 +1,7 @@
-ghost use Rattle.std.specs.Prelude.{◌≡◌, ◌<◌, ◌≤◌, ◌+◌, ◌*◌, ◌++◌, ◌∷◌, [], AllPairs, IfOk};
+ghost use Rattle.std.specs.Prelude.{◌≡◌, ◌<◌, ◌≤◌, ◌+◌, AllPairs, IfOk};
 ghost use Rattle.agglo_model.specs.PairOrder.{most_edges};
 ghost use Rattle.agglo_model.specs.RegionGraph.{StandsBefore};
-ghost use Rattle.region_graph.specs.Lists.{AreNamed, AreOrdered, AreTouching, SameContacts, SameRegions, count_of};
+ghost use Rattle.region_graph.specs.Lists.{AreNamed, AreOrdered, AreTouching, Gains, IsFit, SameContacts, SameRegions, count_of, order_of, with_contact, with_faces_of};
 
 use crate::graph::{Edge, Region};
 use agglo_model::Memory;
@@ -17,7 +17,7 @@ pub fn sum_contacts(alloc: Global, mut edges: Vec<Edge>) -> Result<Vec<Edge>, Me
     ensures contacts { IfOk result (λ summed. SameContacts edges.items summed.items) }
     ensures count { IfOk result (λ summed. count_of summed.items ≡ count_of edges.items) }
 {
-    edges.sort_unstable_by_key(|edge| edge.place());
+    edges.sort_unstable_by_key(|edge| edge.order());
     let mut summed = Vec::new(alloc);
     for edge in &edges {
         add_edge(&mut summed, *edge)?;
@@ -28,11 +28,12 @@ pub fn sum_contacts(alloc: Global, mut edges: Vec<Edge>) -> Result<Vec<Edge>, Me
 /// Adds an edge to the last of the list, where that is between the same two names, and else appends it.
 pub(crate) fn add_edge(edges: &mut Vec<Edge>, edge: Edge) -> Result<(), Memory>
     requires { count_of edges.old.items + edge.contact.count ≤ most_edges }
-    ensures contacts { IfOk result (λ _. SameContacts (edges.old.items ++ edge ∷ []) edges.new.items) }
-    ensures count { IfOk result (λ _. count_of edges.new.items ≡ count_of edges.old.items + edge.contact.count) }
+    ensures gains { IfOk result (λ _. Gains order_of with_contact edge edges.old.items edges.new.items) }
+    ensures fits { IsFit edge }
 {
+    let order = edge.order();
     if let Some(last) = edges.last_mut() {
-        if last.a == edge.a && last.b == edge.b {
+        if last.order() == order {
             last.contact = last.contact.add(edge.contact);
             return Ok(());
         }
@@ -57,8 +58,8 @@ pub fn join_regions(alloc: Global, mut regions: Vec<Region>) -> Result<Vec<Regio
 }
 
 /// Gives the faces of a region to the last of the list, where that has its name, and else appends it.
-fn add_region(regions: &mut Vec<Region>, region: Region) -> Result<(), Memory>
-    ensures { IfOk result (λ _. SameRegions (regions.old.items ++ region ∷ []) regions.new.items) }
+pub(crate) fn add_region(regions: &mut Vec<Region>, region: Region) -> Result<(), Memory>
+    ensures { IfOk result (λ _. Gains (λ r. r.name) with_faces_of region regions.old.items regions.new.items) }
 {
     if let Some(last) = regions.last_mut() {
         if last.name == region.name {

@@ -1,13 +1,34 @@
-use Rattle.std.proofs.Common.{rules, ◌≡◌, ◌<◌, ◌≤◌, ◌+◌, ◌*◌, ◌++◌, ◌∷◌, [], AllPairs, IfOk, ℕ, ◌-◌, length, ◌/◌, ◌%◌, Bool, true, false, nat_eq, nat_lt, List, slice_index_or, slice_set, bit_and, bit_or, Fits, w8, w32, w64, Bor, MutBor}
-use Rattle.agglo_model.specs.PairOrder.{most_edges}
-use Rattle.agglo_model.specs.RegionGraph.{StandsBefore}
-use Rattle.region_graph.specs.Lists.{AreNamed, AreOrdered, AreTouching, SameContacts, SameRegions, count_of}
+use Rattle.std.proofs.Common.{refl, ◌≡◌, ◌-◌, [], ◌∷◌, ◌++◌, length, set, sym, ap, ◌∙◌, arith}
+use Rattle.std.specs.Vec.{vec_len}
+use Rattle.std.proofs.lemmas.List.{set-get_or, get_or_read}
+use Rattle.agglo_model.specs.PairOrder.{added}
+use Rattle.region_graph.specs.Lists.{order_of, with_contact}
+use Rattle.region_graph.proofs.Gaining.{takes_in, appends}
 use Rattle.region_graph.proofs.sums.add_edge.Goals as goal
+use Rattle.region_graph.proofs.sums.add_edge.Goals.{in-Some+else-order, in_default}
 
--- src/sums.rt:37:13
-pub returns-then-last-edge-2-clause-contacts : goal.returns-then-last-edge-2-clause-contacts
-returns-then-last-edge-2-clause-contacts c = let h = c.well_formed in let k = c.edge.view_is in let m = c.if-last-edge.known-fits in let n = c.in-Some.ensures in ?
+pub returns-then-order-clause-gains : goal.returns-then-order-clause-gains
+returns-then-order-clause-gains c =
+    let last = c.in-Some.last.now in
+    let n = vec_len c.args.edges.now in
+    let same : order_of last ≡ order_of c.args.edge = sym c.order.ensures.value ∙ c.if-order.true ∙ c.order-order.ensures.value in
+    let contacts : c.add-last-inside.result ≡ added last.contact c.args.edge.contact =
+    c.add-last-inside.ensures ∙ (λ i. added (c.last.view_is i).contact (c.edge.view_is i).contact) in
+    takes_in order_of with_contact c.args.edge c.args.edges.now.items last _ n (omega arith) (c.in-Some.ensures.variant.0 refl)
+    c.in-Some.ensures.value same (λ i. record (c.last.view_is i) { contact = contacts i })
 
--- src/sums.rt:29:1
-pub returns-clause-contacts : goal.returns-clause-contacts
-returns-clause-contacts c = ?
+pub returns-clause-gains : goal.returns-clause-gains
+returns-clause-gains c =
+    let xs = c.args.edges.now.items in
+    let n = vec_len c.args.edges.now in
+    let none : vec_len c.args.edges.now ≡ length xs = omega arith in
+    elim c.match-last_mut.branch [
+      | in-Some+else-order w ↦
+          let found = w.in-Some.last.now in
+          appends order_of with_contact c.args.edge xs c.push.new.self.items n (omega arith)
+          (λ last some at_last same. w.if-order.false (w.order.ensures.value ∙ ap order_of (sym (get_or_read xs (n - 1) last (omega arith) at_last found ∙ sym w.in-Some.ensures.value)) ∙ same ∙ sym c.order-order.ensures.value))
+          (c.in_ok-push.ensures.items ∙ ap (λ v. v.items ++ c.args.edge ∷ []) w.edges-is
+          ∙ ap (λ ys. ys ++ c.args.edge ∷ []) (ap (set xs (n - 1)) w.in-Some.ensures.value ∙ set-get_or xs (n - 1) found))
+      | in_default w ↦ appends order_of with_contact c.args.edge xs c.push.new.self.items n (omega arith)
+          (λ last some at_last same. omega (arith, w.in_default.ensures.item.3)) (c.in_ok-push.ensures.items ∙ ap (λ v. v.items ++ c.args.edge ∷ []) w.edges-is)
+    ]
