@@ -8,10 +8,10 @@ use Rattle.std.proofs.lemmas.List.Elements.{Contains-get_or, Contains-push, Cont
 use Rattle.std.proofs.lemmas.List.Sorted.{All-permutation, sum_by-IsPermutation}
 use Rattle.agglo_model.specs.PairOrder.{Contact, added}
 use Rattle.agglo_model.specs.Contacts.{are}
-use Rattle.agglo_model.specs.RegionGraph.{GraphEdge, StandsBefore, is_between, no_contact}
+use Rattle.agglo_model.specs.RegionGraph.{GraphEdge, StandsBefore, is_between, no_contact, contact_in}
 use Rattle.agglo_model.proofs.GraphContacts.{same_contact, added_assoc, joint, joint-append, joint-permutation, contact_in-is, none-added}
 use Rattle.agglo_model.proofs.Members.{contains_none, All-from_contains}
-use Rattle.region_graph.specs.Lists.{AreOrdered, AreTouching, SameContacts, IsFit, Gains, count_of, order_of, with_contact}
+use Rattle.region_graph.specs.Lists.{AreOrdered, AreTouching, SameContacts, IsFit, TakesIn, Gains, count_of, order_of, with_contact}
 use Rattle.region_graph.proofs.Gaining.{AreKeyed, none_keyed, keyed_more, each_more, low_before}
 
 -- ---- edges by their places in order
@@ -50,22 +50,26 @@ taken_joint past x y others last e same =
     ∙ ap (λ c. added c (joint past p (e ∷ []))) (sym (joint-append past p others (last ∷ [])))
     ∙ sym (joint-append past p (others ++ last ∷ []) (e ∷ []))
 
--- the edge was added to what the list sums up
-pub gained_joint : (past x y : ℕ) (e : GraphEdge) (before after : List GraphEdge)
-    → ((f : GraphEdge) → Contains before f → f.b < 2 ^ 32) → e.b < 2 ^ 32
-    → Gains order_of with_contact e before after
-    → joint past (is_between x y) after ≡ added (joint past (is_between x y) before) (joint past (is_between x y) (e ∷ []))
-gained_joint past x y e before after fit fits (inl taken) =
+-- the contacts after an edge was taken into the last of the list, which is between the same names
+pub taken-contacts : (e : GraphEdge) (before after : List GraphEdge) (taken : TakesIn order_of with_contact e before after)
+    → taken.last.b < 2 ^ 32 → e.b < 2 ^ 32 → SameContacts (before ++ e ∷ []) after
+taken-contacts e before after taken fit fits past x y =
     let last = taken.last in
-    let inside = subst (λ es. Contains es last) (sym taken.was) (Contains-push taken.others last) in
-    let names = same_names last.a last.b e.a e.b (fit last inside) fits taken.same_key in
+    let names = same_names last.a last.b e.a e.b fit fits taken.same_key in
     let same : is_between x y last ≡ is_between x y e = λ i. are (names.0 i) (names.1 i) x y in
-    ap (joint past (is_between x y)) taken.is
+    contact_in-is past x y after
+    ∙ ap (joint past (is_between x y)) taken.is
     ∙ taken_joint past x y taken.others last e same
-    ∙ joint-append past (is_between x y) (taken.others ++ last ∷ []) (e ∷ [])
-    ∙ ap (λ es. added (joint past (is_between x y) es) (joint past (is_between x y) (e ∷ []))) (sym taken.was)
-gained_joint past x y e before after fit fits (inr appended) =
-    ap (joint past (is_between x y)) appended.is ∙ joint-append past (is_between x y) before (e ∷ [])
+    ∙ ap (λ es. joint past (is_between x y) (es ++ e ∷ [])) (sym taken.was)
+    ∙ sym (contact_in-is past x y (before ++ e ∷ []))
+
+pub gained-contacts : (e : GraphEdge) (before after : List GraphEdge)
+    → ((f : GraphEdge) → Contains before f → f.b < 2 ^ 32) → e.b < 2 ^ 32
+    → Gains order_of with_contact e before after → SameContacts (before ++ e ∷ []) after
+gained-contacts e before after fit fits (inl taken) past x y =
+    taken-contacts e before after taken
+    (fit taken.last (subst (λ es. Contains es taken.last) (sym taken.was) (Contains-push taken.others taken.last))) fits past x y
+gained-contacts e before after fit fits (inr appended) past x y = ap (λ es. contact_in past es x y) appended.is
 
 -- how many edges of the grid there are then
 pub gained_count : (e : GraphEdge) (before after : List GraphEdge) → Gains order_of with_contact e before after
@@ -109,8 +113,8 @@ summed_more done summed after e so_far low fits gained = record {
     | inr here ↦ subst IsFit here fits
   ];
   contacts = λ past x y.
-      contact_in-is past x y after
-      ∙ gained_joint past x y e summed after (λ f inside. (so_far.fit f inside).b_fits) fits.b_fits gained
+      gained-contacts e summed after (λ f inside. (so_far.fit f inside).b_fits) fits.b_fits gained past x y
+      ∙ contact_in-is past x y (summed ++ e ∷ []) ∙ joint-append past (is_between x y) summed (e ∷ [])
       ∙ ap (λ c. added c (joint past (is_between x y) (e ∷ [])))
       (sym (contact_in-is past x y summed) ∙ so_far.contacts past x y ∙ contact_in-is past x y done)
       ∙ sym (joint-append past (is_between x y) done (e ∷ [])) ∙ sym (contact_in-is past x y (done ++ e ∷ []));

@@ -7,17 +7,17 @@ use Rattle.std.proofs.lemmas.List.{get_or_at, get_or_append_left, get_or-take, g
 use Rattle.std.proofs.lemmas.List.Elements.{Contains-get_or, Contains-append_left, Contains-push, Contains-push_cases}
 use Rattle.std.proofs.lemmas.List.Quantifiers.{all_pairs_push}
 use Rattle.agglo_model.proofs.Members.{contains_none}
-use Rattle.region_graph.specs.Lists.{Appends, Gains}
+use Rattle.region_graph.specs.Lists.{TakesIn, Appends, Gains}
 
 -- ---- a list by its last element
 
-split_last : {X : Type 0} (xs : List X) (d : X) → 0 < length xs
+pub split_last : {X : Type 0} (xs : List X) (d : X) → 0 < length xs
     → xs ≡ take (length xs - 1) xs ++ get_or xs (length xs - 1) d ∷ []
 split_last xs d some =
     let whole = take_all (length xs - 1 + 1) xs (omega arith) in
     sym whole ∙ take_more xs (length xs - 1) d (omega arith)
 
-set_last : {X : Type 0} (xs : List X) (x : X) → 0 < length xs → set xs (length xs - 1) x ≡ take (length xs - 1) xs ++ x ∷ []
+pub set_last : {X : Type 0} (xs : List X) (x : X) → 0 < length xs → set xs (length xs - 1) x ≡ take (length xs - 1) xs ++ x ∷ []
 set_last xs x some =
     let none = drop_all (suc (length xs - 1)) xs (omega arith) in
     set_split xs (length xs - 1) x (omega arith) ∙ ap (λ ys. take (length xs - 1) xs ++ x ∷ ys) none
@@ -29,10 +29,10 @@ last_of xs others last d is =
 
 -- ---- how a list gains an element
 
-pub takes_in : {X : Type 0} (key : X → ℕ) (both : X → X → X) (x : X) (xs : List X) (last new : X) (n : ℕ)
+unfoldable pub takes_in : {X : Type 0} (key : X → ℕ) (both : X → X → X) (x : X) (xs : List X) (last new : X) (n : ℕ)
     → length xs ≡ n → 0 < n → last ≡ get_or xs (n - 1) last → key last ≡ key x → new ≡ both last x
-    → Gains key both x xs (set xs (n - 1) new)
-takes_in key both x xs last new n len some at_last same new_is = inl (record {
+    → TakesIn key both x xs (set xs (n - 1) new)
+takes_in key both x xs last new n len some at_last same new_is = record {
   others = take (length xs - 1) xs;
   last = last;
   was = split_last xs last (omega arith)
@@ -40,7 +40,7 @@ takes_in key both x xs last new n len some at_last same new_is = inl (record {
   same_key = same;
   is = ap (λ k. set xs (k - 1) new) (sym len) ∙ set_last xs new (omega arith)
       ∙ ap (λ z. take (length xs - 1) xs ++ z ∷ []) new_is;
-})
+}
 
 pub appends : {X : Type 0} (key : X → ℕ) (both : X → X → X) (x : X) (xs ys : List X) (n : ℕ) → length xs ≡ n
     → ((last : X) → 0 < n → last ≡ get_or xs (n - 1) last → key last ≢ key x)

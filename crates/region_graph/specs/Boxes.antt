@@ -1,8 +1,13 @@
--- Boxes of voxels, and what lies in them.
-use Rattle.std.specs.Prelude.{ℕ, ◌/◌, ◌%◌, ◌<◌, ◌≤◌, ◌==◌, nat_lt, nat_le, Bool, ◌&&◌, List, slice_index}
+-- Boxes of voxels, rows of them, and the names and edges that are found there.
+use Rattle.std.specs.Prelude.{◌≡◌, ◌≢◌, ℕ, ◌+◌, ◌/◌, ◌%◌, ◌<◌, ◌≤◌, ◌==◌, nat_lt, nat_le, Bool, ◌&&◌, ◌||◌, if◌then◌else◌, List, slice_index, bit_or}
 use Rattle.std.specs.List.{list_any, range_with_len}
-use Rattle.agglo_model.specs.Axes.{Axes, voxel_count, coordinate}
+use Rattle.agglo_model.specs.Axes.{Axes, voxel_count, edge_count, coordinate}
 use Rattle.agglo_model.specs.Basins.{label_of}
+use Rattle.agglo_model.specs.Grid.{Grid}
+use Rattle.agglo_model.specs.PairOrder.{added}
+use Rattle.agglo_model.specs.Contacts.{joins, total}
+use Rattle.agglo_model.specs.RegionGraph.{Region, GraphEdge, contact_in}
+use Rattle.region_graph.specs.Lists.{AreNamed, AreOrdered, faces_in, has_name}
 
 -- the coordinate of voxel v on an axis is in the box's range there
 abbrev pub in_span : Axes → List ℕ → List ℕ → ℕ → ℕ → Bool
@@ -14,28 +19,36 @@ abbrev pub in_box : Axes → List ℕ → List ℕ → ℕ → Bool
 in_box a lo hi v = nat_lt v (voxel_count a)
     && (in_span a lo hi v 0 && (in_span a lo hi v 1 && in_span a lo hi v 2))
 
--- the box is some place of the grid: on each axis it begins before it ends, and ends in the volume
+-- voxel v is one of those from `from` up to, but not including, `to`
+abbrev pub in_run : ℕ → ℕ → ℕ → Bool
+in_run from to v = nat_le from v && nat_lt v to
+
+-- a box of the volume, which may be empty: on each axis it ends in the volume, and begins no later
 pub record IsBox (a : Axes) (lo hi : List ℕ) : Type 0 where
-  pub some_x : slice_index lo 0 < slice_index hi 0
-  pub some_y : slice_index lo 1 < slice_index hi 1
-  pub some_z : slice_index lo 2 < slice_index hi 2
+  pub from_x : slice_index lo 0 ≤ slice_index hi 0
+  pub from_y : slice_index lo 1 ≤ slice_index hi 1
+  pub from_z : slice_index lo 2 ≤ slice_index hi 2
   pub most_x : slice_index hi 0 ≤ a.nx
   pub most_y : slice_index hi 1 ≤ a.ny
   pub most_z : slice_index hi 2 ≤ a.nz
 
--- some voxel of the volume passes the test
-abbrev pub some_voxel_of : Axes → (ℕ → Bool) → Bool
-some_voxel_of a test = list_any test (range_with_len 0 (voxel_count a))
+-- some voxel that passes the test has the name x
+abbrev pub name_among : Axes → List ℕ → (ℕ → Bool) → ℕ → Bool
+name_among a labels test x = list_any (λ v. test v && label_of labels v == x) (range_with_len 0 (voxel_count a))
 
--- some voxel of the box has the name x
-abbrev pub name_in_box : Axes → List ℕ → List ℕ → List ℕ → ℕ → Bool
-name_in_box a labels lo hi x = some_voxel_of a (λ v. in_box a lo hi v && label_of labels v == x)
+-- e is the number of an edge on this axis whose higher end passes the test
+abbrev pub ends_among : ℕ → (ℕ → Bool) → ℕ → Bool
+ends_among axis test e = e % 3 == axis && test (e / 3)
 
--- e is the number of an edge on this axis whose higher end lies in the box
-abbrev pub ends_in_box : Axes → List ℕ → List ℕ → ℕ → ℕ → Bool
-ends_in_box a lo hi axis e = e % 3 == axis && in_box a lo hi (e / 3)
+-- the names of the voxels that pass the test were added to the list, with these faces
+pub record GainsNames (a : Axes) (labels : List ℕ) (test : ℕ → Bool) (faces : ℕ) (before after : List Region) : Type 0 where
+  pub named : AreNamed before → AreNamed after
+  pub names : (x : ℕ) → x ≢ 0 → has_name after x ≡ (has_name before x || name_among a labels test x)
+  pub with_faces : (x : ℕ) → x ≢ 0 → faces_in after x
+      ≡ (if name_among a labels test x then bit_or (faces_in before x) faces else faces_in before x)
 
--- e is the number of an edge on this axis whose higher end is one of the voxels from `from` up to, but not
--- including, `to`
-abbrev pub ends_in_run : ℕ → ℕ → ℕ → ℕ → Bool
-ends_in_run axis from to e = e % 3 == axis && (nat_le from (e / 3) && nat_lt (e / 3) to)
+-- the contacts of the edges that pass the test were added to the list
+pub record GainsContacts (g : Grid) (labels : List ℕ) (test : ℕ → Bool) (before after : List GraphEdge) : Type 0 where
+  pub ordered : AreOrdered before → AreOrdered after
+  pub contacts : (x y : ℕ) → contact_in (edge_count g.axes) after x y
+      ≡ added (contact_in (edge_count g.axes) before x y) (total g (λ e. joins g labels x y e && test e))

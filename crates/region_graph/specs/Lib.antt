@@ -1,3 +1,3 @@
 pub mod SiteView
-pub mod Boxes
 pub mod Lists
+pub mod Boxes

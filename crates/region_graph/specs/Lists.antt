@@ -17,11 +17,6 @@ pub record SameRegions (regions others : List Region) : Type 0 where
   pub names : (x : ℕ) → has_name others x ≡ has_name regions x
   pub faces : (x : ℕ) → faces_in others x ≡ faces_in regions x
 
--- the names for which the test holds were added to the list, with these faces
-pub record GainsNames (test : ℕ → Bool) (faces : ℕ) (before after : List Region) : Type 0 where
-  pub names : (x : ℕ) → x ≢ 0 → has_name after x ≡ (test x || has_name before x)
-  pub with_faces : (x : ℕ) → x ≢ 0 → faces_in after x ≡ (if test x then bit_or (faces_in before x) faces else faces_in before x)
-
 -- background is no region
 abbrev pub AreNamed : List Region → Type 0
 AreNamed regions = All (λ r. r.name ≢ 0) regions

@@ -41,8 +41,25 @@ impl Model for Edge {
 }
 
 impl Edge {
-    ghost use Rattle.std.specs.Prelude.{◌≡◌};
+    ghost use Rattle.std.specs.Prelude.{◌≡◌, ◌<◌, min, max};
+    ghost use Rattle.agglo_model.specs.PairOrder.{most_edges};
     ghost use Rattle.region_graph.specs.Lists.{IsFit, order_of};
+
+    /// The edge between two names that one edge of the grid makes, of this affinity and this number.
+    pub(crate) fn one(x: u32, y: u32, byte: u8, number: u32) -> Edge
+        requires { number < most_edges }
+        ensures { result ≡ record {
+          a = min x y;
+          b = max x y;
+          contact = record { sum = byte; count = 1; tie = number };
+        } }
+    {
+        Edge {
+            a: x.min(y),
+            b: x.max(y),
+            contact: Contact::one(byte, number),
+        }
+    }
 
     /// A number that is smaller, the earlier the edge stands in a graph.
     pub(crate) fn order(&self) -> u64

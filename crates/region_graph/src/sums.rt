@@ -1,4 +1,4 @@
-ghost use Rattle.std.specs.Prelude.{◌≡◌, ◌<◌, ◌≤◌, ◌+◌, AllPairs, IfOk};
+ghost use Rattle.std.specs.Prelude.{◌≡◌, ◌<◌, ◌≤◌, ◌+◌, ◌++◌, ◌∷◌, [], AllPairs, IfOk};
 ghost use Rattle.agglo_model.specs.PairOrder.{most_edges};
 ghost use Rattle.agglo_model.specs.RegionGraph.{StandsBefore};
 ghost use Rattle.region_graph.specs.Lists.{AreNamed, AreOrdered, AreTouching, Gains, IsFit, SameContacts, SameRegions, count_of, order_of, with_contact, with_faces_of};
@@ -29,6 +29,8 @@ pub fn sum_contacts(alloc: Global, mut edges: Vec<Edge>) -> Result<Vec<Edge>, Me
 pub(crate) fn add_edge(edges: &mut Vec<Edge>, edge: Edge) -> Result<(), Memory>
     requires { count_of edges.old.items + edge.contact.count ≤ most_edges }
     ensures gains { IfOk result (λ _. Gains order_of with_contact edge edges.old.items edges.new.items) }
+    ensures contacts { IfOk result (λ _. SameContacts (edges.old.items ++ edge ∷ []) edges.new.items) }
+    ensures count { IfOk result (λ _. count_of edges.new.items ≡ count_of edges.old.items + edge.contact.count) }
     ensures fits { IsFit edge }
 {
     let order = edge.order();

@@ -1,4 +1,4 @@
-use Rattle.std.proofs.Common.{refl, ◌≡◌, sym, ◌∙◌, arith, bit_or}
+use Rattle.std.proofs.Common.{inl, refl, ◌≡◌, sym, ◌∙◌, arith, bit_or}
 use Rattle.std.specs.Vec.{vec_len}
 use Rattle.agglo_model.specs.RegionGraph.{Region}
 use Rattle.region_graph.specs.Lists.{with_faces_of}
@@ -13,5 +13,5 @@ returns-then-last-region c =
     (λ i. (sym c.last.view_is i).name) ∙ c.if-last-region.true ∙ (λ i. (c.region.view_is i).name) in
     let faces : bit_or c.last.inside.faces c.region.inside.faces ≡ bit_or last.faces c.args.region.faces =
     (λ i. bit_or (c.last.view_is i).faces (c.region.view_is i).faces) in
-    takes_in (λ (r : Region). r.name) with_faces_of c.args.region c.args.regions.now.items last _ n (omega arith) (c.in-Some.ensures.variant.0 refl)
-    c.in-Some.ensures.value same (λ i. record (c.last.view_is i) { faces = faces i })
+    inl (takes_in (λ (r : Region). r.name) with_faces_of c.args.region c.args.regions.now.items last _ n (omega arith) (c.in-Some.ensures.variant.0 refl)
+    c.in-Some.ensures.value same (λ i. record (c.last.view_is i) { faces = faces i }))
