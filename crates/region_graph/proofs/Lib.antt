@@ -4,3 +4,7 @@ pub mod EdgeSums
 pub mod RegionSums
 pub mod OneEdge
 pub mod ContactGains
+pub mod VoxelTests
+pub mod NameGains
+pub mod ContactRows
+pub mod BoxRows

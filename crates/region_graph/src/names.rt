@@ -37,7 +37,8 @@ fn add_row(
     to: u32,
     faces: u8,
 ) -> Result<(), Memory>
-    requires { to ≤ voxel_count labels.now.axes }
+    requires ascending { from ≤ to }
+    requires voxels { to ≤ voxel_count labels.now.axes }
     ensures { IfOk result (λ _. GainsNames labels.now.axes labels.now.labels
         (in_run from to) faces regions.old.items regions.new.items) }
 {
