@@ -8,3 +8,6 @@ pub mod VoxelTests
 pub mod NameGains
 pub mod ContactRows
 pub mod BoxRows
+pub mod Layers
+pub mod InsideEdges
+pub mod AxisContacts

@@ -1,8 +1,9 @@
 -- Boxes of voxels, rows of them, and the names and edges that are found there.
-use Rattle.std.specs.Prelude.{◌≡◌, ◌≢◌, ℕ, ◌+◌, ◌/◌, ◌%◌, ◌<◌, ◌≤◌, ◌==◌, nat_lt, nat_le, Bool, ◌&&◌, ◌||◌, if◌then◌else◌, List, slice_index, bit_or}
+use Rattle.std.specs.Prelude.{◌≡◌, ◌≢◌, ℕ, ◌+◌, ◌-◌, ◌*◌, ◌/◌, ◌%◌, ◌^◌, ◌<◌, ◌≤◌, ◌==◌, nat_lt, nat_le, Bool, ◌&&◌, ◌||◌, if◌then◌else◌, List, slice_index, slice_set, bit_or}
 use Rattle.std.specs.List.{list_any, range_with_len}
 use Rattle.agglo_model.specs.Axes.{Axes, voxel_count, edge_count, coordinate}
 use Rattle.agglo_model.specs.Basins.{label_of}
+use Rattle.agglo_model.specs.Cutting.{length_on}
 use Rattle.agglo_model.specs.Grid.{Grid}
 use Rattle.agglo_model.specs.PairOrder.{added}
 use Rattle.agglo_model.specs.Contacts.{joins, total}
@@ -52,3 +53,28 @@ pub record GainsContacts (g : Grid) (labels : List ℕ) (test : ℕ → Bool) (b
   pub ordered : AreOrdered before → AreOrdered after
   pub contacts : (x y : ℕ) → contact_in (edge_count g.axes) after x y
       ≡ added (contact_in (edge_count g.axes) before x y) (total g (λ e. joins g labels x y e && test e))
+
+-- a box of the volume with some voxel
+pub record IsSomeBox (a : Axes) (lo hi : List ℕ) : Type 0 where
+  pub some : (axis : ℕ) → axis < 3 → slice_index lo axis < slice_index hi axis
+  pub most : (axis : ℕ) → axis < 3 → slice_index hi axis ≤ length_on a axis
+
+-- the low corner of a box without its lowest layer on an axis
+abbrev pub above_lowest : List ℕ → ℕ → List ℕ
+above_lowest lo axis = slice_set lo axis (slice_index lo axis + 1)
+
+-- the high corner of its lowest layer on an axis, and the low corner of its highest one
+abbrev pub lowest_to : List ℕ → List ℕ → ℕ → List ℕ
+lowest_to lo hi axis = slice_set hi axis (slice_index lo axis + 1)
+
+abbrev pub highest_from : List ℕ → List ℕ → ℕ → List ℕ
+highest_from lo hi axis = slice_set lo axis (slice_index hi axis - 1)
+
+-- the names at the low face of a box on an axis were added, with a bit for that face, and then those at the
+-- high face, with the next bit, each if the face is not on the volume's border
+pub record GainsFaces (a : Axes) (labels lo hi : List ℕ) (axis : ℕ) (before after : List Region) : Type 0 where
+  pub between : List Region
+  pub low : GainsNames a labels (λ v. nat_lt 0 (slice_index lo axis) && in_box a lo (lowest_to lo hi axis) v)
+      (4 ^ axis) before between
+  pub high : GainsNames a labels (λ v. nat_lt (slice_index hi axis) (length_on a axis) && in_box a (highest_from lo hi axis) hi v)
+      (2 * 4 ^ axis) between after

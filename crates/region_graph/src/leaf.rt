@@ -1,9 +1,10 @@
-ghost use Rattle.std.specs.Prelude.{◌≡◌, ◌≢◌, ℕ, ◌+◌, ◌-◌, ◌<◌, ◌≤◌, IfOk, slice_index, slice_set};
+ghost use Rattle.std.specs.Prelude.{◌≡◌, ◌≢◌, ℕ, ◌+◌, ◌^◌, ◌<◌, ◌≤◌, ◌&&◌, IfOk, slice_index};
 ghost use Rattle.agglo_model.specs.Axes.{edge_count};
-ghost use Rattle.agglo_model.specs.Cutting.{cells_at, node_count};
+ghost use Rattle.agglo_model.specs.Cutting.{cells_at, length_on, node_count};
 ghost use Rattle.agglo_model.specs.Freezing.{occurs_in, touched_faces};
 ghost use Rattle.agglo_model.specs.PairOrder.{most_edges};
 ghost use Rattle.agglo_model.specs.RegionGraph.{IsCellGraph, between_inside, contact_in};
+ghost use Rattle.region_graph.specs.Boxes.{GainsFaces, GainsNames, IsBox, IsSomeBox, above_lowest, highest_from, in_box, lowest_to};
 ghost use Rattle.region_graph.specs.Lists.{AreNamed, AreOrdered, count_of, faces_in, has_name};
 
 use crate::contacts::add_contacts;
@@ -12,7 +13,7 @@ use crate::names::add_names;
 use crate::site::Site;
 use crate::sums::{join_regions, sum_contacts};
 use agglo_model::Memory;
-use seg_base::Cell;
+use seg_base::{Cell, Dims, Labels};
 use std::alloc::Global;
 
 /// The graph of all names in the cell of leaf `m`, by the labels that the work starts from.
@@ -65,24 +66,55 @@ fn add_faces(
     site: &Site,
     cell: &Cell,
     axis: u32,
-) -> Result<(), Memory> {
-    let dims = site.vol().dims();
-    let lengths = [dims.nx(), dims.ny(), dims.nz()];
+) -> Result<(), Memory>
+    requires axis { axis < 3 }
+    requires cell_fits { IsSomeBox site.now.grid.axes cell.now.lo cell.now.hi }
+    ensures { IfOk result (λ _. GainsFaces site.now.grid.axes site.now.labels cell.now.lo cell.now.hi axis
+        regions.old.items regions.new.items) }
+{
+    let labels = site.labels();
     let bit = 4u8.pow(axis);
-    if cell.lo[axis as usize] > 0 {
-        add_names(regions, site.labels(), &lowest(cell, axis), bit)?;
-    }
-    if cell.hi[axis as usize] < lengths[axis as usize] {
-        add_names(regions, site.labels(), &highest(cell, axis), 2 * bit)?;
+    let has_low = cell.lo[axis as usize] > 0;
+    add_layer(regions, labels, has_low, &lowest(cell, axis), bit)?;
+    let has_high = cell.hi[axis as usize] < length(labels.dims(), axis);
+    add_layer(regions, labels, has_high, &highest(cell, axis), 2 * bit)?;
+    Ok(())
+}
+
+/// Adds the names of a layer with the bit of its face, where that is artificial.
+fn add_layer(
+    regions: &mut Vec<Region>,
+    labels: &Labels,
+    is_artificial: bool,
+    layer: &Cell,
+    face: u8,
+) -> Result<(), Memory>
+    requires { IsBox labels.now.axes layer.now.lo layer.now.hi }
+    ensures { IfOk result (λ _. GainsNames labels.now.axes labels.now.labels
+        (λ v. is_artificial && in_box labels.now.axes layer.now.lo layer.now.hi v) face regions.old.items regions.new.items) }
+{
+    if is_artificial {
+        add_names(regions, labels, layer, face)?;
     }
     Ok(())
+}
+
+/// The length of an axis.
+fn length(dims: &Dims, axis: u32) -> u32
+    ensures { result ≡ length_on dims.now axis }
+{
+    match axis {
+        0 => dims.nx(),
+        1 => dims.ny(),
+        _ => dims.nz(),
+    }
 }
 
 /// The cell without its lowest layer on an axis.
 fn above_lowest(cell: &Cell, axis: u32) -> Cell
     requires axis { axis < 3 }
-    requires some { slice_index cell.now.lo axis < slice_index cell.now.hi axis }
-    ensures { result ≡ record cell.now { lo = slice_set cell.now.lo axis (slice_index cell.now.lo axis + 1) } }
+    requires fits { slice_index cell.now.lo axis + 1 < 2 ^ 32 }
+    ensures { result ≡ record cell.now { lo = above_lowest cell.now.lo axis } }
 {
     let mut above = *cell;
     above.lo[axis as usize] += 1;
@@ -92,8 +124,8 @@ fn above_lowest(cell: &Cell, axis: u32) -> Cell
 /// The lowest layer of a cell on an axis.
 fn lowest(cell: &Cell, axis: u32) -> Cell
     requires axis { axis < 3 }
-    requires some { slice_index cell.now.lo axis < slice_index cell.now.hi axis }
-    ensures { result ≡ record cell.now { hi = slice_set cell.now.hi axis (slice_index cell.now.lo axis + 1) } }
+    requires fits { slice_index cell.now.lo axis + 1 < 2 ^ 32 }
+    ensures { result ≡ record cell.now { hi = lowest_to cell.now.lo cell.now.hi axis } }
 {
     let mut layer = *cell;
     layer.hi[axis as usize] = cell.lo[axis as usize] + 1;
@@ -103,8 +135,8 @@ fn lowest(cell: &Cell, axis: u32) -> Cell
 /// The highest layer of a cell on an axis.
 fn highest(cell: &Cell, axis: u32) -> Cell
     requires axis { axis < 3 }
-    requires some { slice_index cell.now.lo axis < slice_index cell.now.hi axis }
-    ensures { result ≡ record cell.now { lo = slice_set cell.now.lo axis (slice_index cell.now.hi axis - 1) } }
+    requires some { 0 < slice_index cell.now.hi axis }
+    ensures { result ≡ record cell.now { lo = highest_from cell.now.lo cell.now.hi axis } }
 {
     let mut layer = *cell;
     layer.lo[axis as usize] = cell.hi[axis as usize] - 1;
