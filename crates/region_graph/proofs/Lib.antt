@@ -11,3 +11,4 @@ pub mod BoxRows
 pub mod Layers
 pub mod InsideEdges
 pub mod AxisContacts
+pub mod FaceNames

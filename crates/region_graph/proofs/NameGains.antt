@@ -96,6 +96,15 @@ pub names-test : (a : Axes) (labels : List ℕ) (p q : ℕ → Bool) (faces : �
 names-test a labels p q faces es fs same gained =
     subst (λ test. GainsNames a labels test faces es fs) (fun_ext same) gained
 
+-- the same by equal arguments
+pub names-equal : (a b : Axes) (labels other : List ℕ) (p q : ℕ → Bool) (faces bits : ℕ) (es fs : List Region)
+    → a ≡ b → labels ≡ other → ((v : ℕ) → p v ≡ q v) → faces ≡ bits
+    → GainsNames a labels p faces es fs → GainsNames b other q bits es fs
+names-equal a b labels other p q faces bits es fs axes_are labels_are tests bits_are gained =
+    subst (λ z. GainsNames z other q bits es fs) axes_are
+    (subst (λ z. GainsNames a z q bits es fs) labels_are
+    (subst (λ z. GainsNames a labels q z es fs) bits_are (names-test a labels p q faces es fs tests gained)))
+
 or_nothing : (b : Bool) → b ≡ (b || false)
 or_nothing true = refl
 or_nothing false = refl
