@@ -10,6 +10,7 @@ pub mod MeanLaws
 pub mod VolumeFile
 pub mod LabelFile
 pub mod MergeTree
+pub mod TreeFile
 pub mod MergeLaws
 pub mod Note
 pub mod Report

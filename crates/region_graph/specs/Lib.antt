@@ -1,1 +1,3 @@
 pub mod SiteView
+pub mod Lists
+pub mod Boxes

@@ -1,7 +1,7 @@
 -- What regions are merged in: a volume, the labels that the work starts from, a cutting, and the threshold.
 use Rattle.std.specs.Prelude.{◌≡◌, ℕ, List}
 use Rattle.agglo_model.specs.Grid.{Grid, IsWhole}
-use Rattle.agglo_model.specs.LabelMap.{LabelMap, IsLabelled}
+use Rattle.agglo_model.specs.LabelMap.{IsLabelled}
 use Rattle.agglo_model.specs.PairOrder.{Threshold}
 use Rattle.agglo_model.specs.Cutting.{Chunking, IsChunking}
 use Rattle.agglo_model.specs.Connected.{AreConnected}

@@ -40,6 +40,39 @@ impl Model for Edge {
     ghost inverse = { λ e. record { a = e.a; b = e.b; contact = e.contact } };
 }
 
+impl Edge {
+    ghost use Rattle.std.specs.Prelude.{◌≡◌, ◌<◌, min, max};
+    ghost use Rattle.agglo_model.specs.PairOrder.{most_edges};
+    ghost use Rattle.region_graph.specs.Lists.{IsFit, order_of};
+
+    /// The edge between two names that one edge of the grid makes, of this affinity and this number.
+    pub(crate) fn one(x: u32, y: u32, byte: u8, number: u32) -> Edge
+        requires { number < most_edges }
+        ensures { result ≡ record {
+          a = min x y;
+          b = max x y;
+          contact = record { sum = byte; count = 1; tie = number };
+        } }
+    {
+        Edge {
+            a: x.min(y),
+            b: x.max(y),
+            contact: Contact::one(byte, number),
+        }
+    }
+
+    /// A number that is smaller, the earlier the edge stands in a graph.
+    pub(crate) fn order(&self) -> u64
+        ensures value { result ≡ order_of self.now }
+        ensures fits { IsFit self.now }
+    {
+        let a = self.a;
+        let b = self.b;
+        let _ = self.contact.count();
+        (u64::from(a) << 32) + u64::from(b)
+    }
+}
+
 /// Regions by ascending name, and edges between them by ascending names of both ends, each once. All
 /// contacts together have at most as many edges of the grid as the largest volume.
 #[derive(Drop)]

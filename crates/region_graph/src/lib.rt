@@ -5,8 +5,16 @@
 //! What merges regions and what joins the graphs of children stands on it.
 #![tactic(auto)]
 
+mod contacts;
 mod graph;
+mod leaf;
+mod names;
 mod site;
+mod sums;
+#[cfg(test)]
+mod tests;
 
 pub use graph::{Edge, Graph, Parts, Region, Residue};
+pub use leaf::of_leaf;
 pub use site::Site;
+pub use sums::{join_regions, sum_contacts};

@@ -163,7 +163,7 @@ impl Dims {
     }
 
     /// How far the numbers of two neighbours on an axis lie apart.
-    fn stride(&self, axis: u32) -> u32
+    pub fn stride(&self, axis: u32) -> u32
         ensures value { result ≡ stride self.now axis }
         ensures limits { IsWithinLimits self.now }
     {

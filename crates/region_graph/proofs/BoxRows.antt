@@ -1,0 +1,188 @@
+-- A box gone over row by row: the contacts and the names of the rows so far.
+use Rattle.std.proofs.Common.{◌≡◌, ℕ, ◌+◌, ◌*◌, ◌-◌, ◌/◌, ◌%◌, ◌<◌, ◌≤◌, Bool, true, false, ◌&&◌, ◌||◌, eqb, List, get_or, refl, sym, ap, ◌∙◌, subst, arith}
+use Rattle.std.proofs.Math.Nat.{mul-le-mul_left}
+use Rattle.agglo_model.specs.Axes.{Axes, IsWithinLimits, IsPlace, voxel_count, voxel_at, coordinate}
+use Rattle.agglo_model.specs.Cell.{IsInBox}
+use Rattle.agglo_model.specs.Grid.{Grid}
+use Rattle.agglo_model.specs.Contacts.{joins}
+use Rattle.agglo_model.specs.RegionGraph.{GraphEdge, Region}
+use Rattle.agglo_model.proofs.Edges.{each_axis}
+use Rattle.agglo_model.proofs.Places.{voxel_at-lt}
+use Rattle.region_graph.specs.Lists.{count_of}
+use Rattle.region_graph.specs.Boxes.{GainsContacts, GainsNames, IsBox, ends_among, in_box}
+use Rattle.region_graph.proofs.VoxelTests.{is_seen, in_row, in_box-is, row_inside, seen_none, seen_first, seen_layer, seen_all, seen_more, seen_apart}
+use Rattle.region_graph.proofs.ContactGains.{gains-nothing, gains-both, gains-same}
+use Rattle.region_graph.proofs.NameGains.{names-nothing, names-both, names-test}
+
+-- ---- rows of a box in the volume
+
+-- a row at this place of the box
+pub record IsRow (lo hi : List ℕ) (y z : ℕ) : Type 0 where
+  pub y_low : get_or lo 1 0 ≤ y
+  pub y_high : y < get_or hi 1 0
+  pub z_low : get_or lo 2 0 ≤ z
+  pub z_high : z < get_or hi 2 0
+
+-- a whole row of the volume ends in the volume
+pub row_fits : (a : Axes) (lo hi : List ℕ) (y z : ℕ) → IsWithinLimits a → IsBox a lo hi → IsRow lo hi y z
+    → voxel_at a 0 y z + a.nx ≤ voxel_count a
+row_fits a lo hi y z limits box row =
+    let place : IsPlace a (a.nx - 1) y z = record {
+      in_x = omega (arith, limits.some_x);
+      in_y = omega (arith, row.y_high, box.most_y);
+      in_z = omega (arith, row.z_high, box.most_z);
+    } in
+    let below = voxel_at-lt a (a.nx - 1) y z place in
+    omega (arith, below, limits.some_x)
+
+low_on : (a : Axes) (lo hi : List ℕ) (v axis : ℕ) → axis < 3 → IsInBox a lo hi v → get_or lo axis 0 ≤ coordinate a v axis
+low_on a lo hi v axis below inside = each_axis (λ c. get_or lo c 0 ≤ coordinate a v c) axis below inside.from_x inside.from_y inside.from_z
+
+-- no voxel of a row lies at the low border on an axis where the box does not begin there
+pub row_inner : (a : Axes) (lo hi : List ℕ) (y z axis v : ℕ) → IsBox a lo hi → IsRow lo hi y z → axis < 3 → 0 < get_or lo axis 0
+    → voxel_at a 0 y z + get_or lo 0 0 ≤ v → v < voxel_at a 0 y z + get_or hi 0 0 → 0 < coordinate a v axis
+row_inner a lo hi y z axis v box row below some from to =
+    let inside = row_inside a lo hi y z v box row.y_low row.y_high row.z_low row.z_high from to in
+    let low = low_on a lo hi v axis below (in_box-is a lo hi v inside) in
+    omega arith
+
+-- ---- contacts
+
+-- the contacts of the box's rows before the one at y and z were gained, at most one edge of the grid for each voxel
+pub record AreRowsSummed (g : Grid) (labels : List ℕ) (axis : ℕ) (lo hi : List ℕ) (y z : ℕ) (before now : List GraphEdge) : Type 0 where
+  pub gains : GainsContacts g labels (ends_among axis (is_seen g.axes lo hi y z)) before now
+  pub count : count_of now ≤ count_of before + voxel_at g.axes 0 y z
+
+ends_of : (axis : ℕ) (p q : ℕ → Bool) (e : ℕ) → ((v : ℕ) → p v ≡ q v) → ends_among axis p e ≡ ends_among axis q e
+ends_of axis p q e same = ap (λ b. eqb (e % 3) axis && b) (same (e / 3))
+
+and_none : (b c : Bool) → c ≡ false → (b && c) ≡ false
+and_none true c none = none
+and_none false c none = refl
+
+pub rows-none : (g : Grid) (labels : List ℕ) (axis : ℕ) (lo hi : List ℕ) (es : List GraphEdge)
+    → AreRowsSummed g labels axis lo hi 0 (get_or lo 2 0) es es
+rows-none g labels axis lo hi es = record {
+  gains = gains-nothing g labels (ends_among axis (is_seen g.axes lo hi 0 (get_or lo 2 0))) es
+      (λ x y e. and_none (joins g labels x y e) _ (and_none (eqb (e % 3) axis) _ (seen_none g.axes lo hi (e / 3))));
+  count = omega arith;
+}
+
+same_rows : (g : Grid) (labels : List ℕ) (axis : ℕ) (p q : ℕ → Bool) (es fs : List GraphEdge) → ((v : ℕ) → p v ≡ q v)
+    → GainsContacts g labels (ends_among axis p) es fs → GainsContacts g labels (ends_among axis q) es fs
+same_rows g labels axis p q es fs same gained =
+    gains-same g labels (ends_among axis p) (ends_among axis q) es fs (λ e _. ends_of axis p q e same) gained
+
+first_row : (nx m y : ℕ) → nx * (0 + m) ≤ nx * (y + m)
+first_row nx m y = mul-le-mul_left nx (omega arith)
+
+pub rows-first : (g : Grid) (labels : List ℕ) (axis : ℕ) (lo hi : List ℕ) (z : ℕ) (es fs : List GraphEdge)
+    → AreRowsSummed g labels axis lo hi 0 z es fs → AreRowsSummed g labels axis lo hi (get_or lo 1 0) z es fs
+rows-first g labels axis lo hi z es fs so_far = record {
+  gains = same_rows g labels axis (is_seen g.axes lo hi 0 z) (is_seen g.axes lo hi (get_or lo 1 0) z) es fs
+      (seen_first g.axes lo hi z) so_far.gains;
+  count =
+      let more = first_row g.axes.nx (g.axes.ny * z) (get_or lo 1 0) in
+      let so_many = so_far.count in
+      omega (arith, more, so_many);
+}
+
+both_ends : (c p q : Bool) → ((c && p) || (c && q)) ≡ (c && (p || q))
+both_ends true p q = refl
+both_ends false p q = refl
+
+never_ends : (c p q : Bool) → (p && q) ≡ false → ((c && p) && (c && q)) ≡ false
+never_ends true p q apart = apart
+never_ends false p q apart = refl
+
+-- one row more
+pub rows-more : (g : Grid) (labels : List ℕ) (axis : ℕ) (lo hi : List ℕ) (y z : ℕ) (es fs gs : List GraphEdge)
+    → IsBox g.axes lo hi → IsRow lo hi y z → AreRowsSummed g labels axis lo hi y z es fs
+    → GainsContacts g labels (ends_among axis (in_row g.axes lo hi y z)) fs gs
+    → count_of gs ≤ count_of fs + ((voxel_at g.axes 0 y z + get_or hi 0 0) - (voxel_at g.axes 0 y z + get_or lo 0 0))
+    → AreRowsSummed g labels axis lo hi (y + 1) z es gs
+rows-more g labels axis lo hi y z es fs gs box row so_far gained count =
+    let p = is_seen g.axes lo hi y z in
+    let q = in_row g.axes lo hi y z in
+    record {
+      gains = gains-same g labels (λ e. ends_among axis p e || ends_among axis q e) (ends_among axis (is_seen g.axes lo hi (y + 1) z)) es gs
+          (λ e _. both_ends (eqb (e % 3) axis) (p (e / 3)) (q (e / 3))
+          ∙ ap (λ b. eqb (e % 3) axis && b) (seen_more g.axes lo hi y z (e / 3) box row.y_low row.y_high row.z_low row.z_high))
+          (gains-both g labels (ends_among axis p) (ends_among axis q) es fs gs
+          (λ e. never_ends (eqb (e % 3) axis) (p (e / 3)) (q (e / 3))
+          (seen_apart g.axes lo hi y z (e / 3) box row.y_low row.y_high row.z_low row.z_high)) so_far.gains gained);
+      count =
+          let so_many = so_far.count in
+          let most = box.most_x in
+          omega (arith, so_many, most, count);
+    }
+
+next_layer : (nx ny h z : ℕ) → h ≤ ny → nx * (h + ny * z) ≤ nx * (0 + ny * (z + 1))
+next_layer nx ny h z most = mul-le-mul_left nx (omega arith)
+
+-- one layer more
+pub rows-layer : (g : Grid) (labels : List ℕ) (axis : ℕ) (lo hi : List ℕ) (z : ℕ) (es fs : List GraphEdge) → IsBox g.axes lo hi
+    → AreRowsSummed g labels axis lo hi (get_or hi 1 0) z es fs → AreRowsSummed g labels axis lo hi 0 (z + 1) es fs
+rows-layer g labels axis lo hi z es fs box so_far = record {
+  gains = same_rows g labels axis (is_seen g.axes lo hi (get_or hi 1 0) z) (is_seen g.axes lo hi 0 (z + 1)) es fs
+      (seen_layer g.axes lo hi z) so_far.gains;
+  count =
+      let more = next_layer g.axes.nx g.axes.ny (get_or hi 1 0) z box.most_y in
+      let so_many = so_far.count in
+      omega (arith, more, so_many);
+}
+
+-- all rows
+pub rows-gained : (g : Grid) (labels : List ℕ) (axis : ℕ) (lo hi : List ℕ) (es fs : List GraphEdge)
+    → AreRowsSummed g labels axis lo hi 0 (get_or hi 2 0) es fs
+    → GainsContacts g labels (ends_among axis (in_box g.axes lo hi)) es fs
+rows-gained g labels axis lo hi es fs all =
+    same_rows g labels axis (is_seen g.axes lo hi 0 (get_or hi 2 0)) (in_box g.axes lo hi) es fs (seen_all g.axes lo hi) all.gains
+
+last_layer : (nx ny nz h : ℕ) → h ≤ nz → nx * (0 + ny * h) ≤ nx * ny * nz
+last_layer nx ny nz h most =
+    let less : nx * ny * h ≤ nx * ny * nz = mul-le-mul_left (nx * ny) most in
+    omega (arith, less)
+
+pub rows-count : (g : Grid) (labels : List ℕ) (axis : ℕ) (lo hi : List ℕ) (es fs : List GraphEdge) → IsBox g.axes lo hi
+    → AreRowsSummed g labels axis lo hi 0 (get_or hi 2 0) es fs → count_of fs ≤ count_of es + voxel_count g.axes
+rows-count g labels axis lo hi es fs box all =
+    let most = last_layer g.axes.nx g.axes.ny g.axes.nz (get_or hi 2 0) box.most_z in
+    let so_many = all.count in
+    omega (arith, most, so_many)
+
+-- ---- names
+
+-- the names of the box's rows before the one at y and z were gained
+abbrev pub AreRowsNamed : Axes → List ℕ → ℕ → List ℕ → List ℕ → ℕ → ℕ → List Region → List Region → Type 0
+AreRowsNamed a labels faces lo hi y z before now = GainsNames a labels (is_seen a lo hi y z) faces before now
+
+pub named-none : (a : Axes) (labels : List ℕ) (faces : ℕ) (lo hi : List ℕ) (es : List Region)
+    → AreRowsNamed a labels faces lo hi 0 (get_or lo 2 0) es es
+named-none a labels faces lo hi es =
+    names-nothing a labels (is_seen a lo hi 0 (get_or lo 2 0)) faces es (seen_none a lo hi)
+
+pub named-first : (a : Axes) (labels : List ℕ) (faces : ℕ) (lo hi : List ℕ) (z : ℕ) (es fs : List Region)
+    → AreRowsNamed a labels faces lo hi 0 z es fs → AreRowsNamed a labels faces lo hi (get_or lo 1 0) z es fs
+named-first a labels faces lo hi z es fs so_far =
+    names-test a labels (is_seen a lo hi 0 z) (is_seen a lo hi (get_or lo 1 0) z) faces es fs (seen_first a lo hi z) so_far
+
+pub named-more : (a : Axes) (labels : List ℕ) (faces : ℕ) (lo hi : List ℕ) (y z : ℕ) (es fs gs : List Region)
+    → IsBox a lo hi → IsRow lo hi y z → AreRowsNamed a labels faces lo hi y z es fs
+    → GainsNames a labels (in_row a lo hi y z) faces fs gs → AreRowsNamed a labels faces lo hi (y + 1) z es gs
+named-more a labels faces lo hi y z es fs gs box row so_far gained =
+    let p = is_seen a lo hi y z in
+    let q = in_row a lo hi y z in
+    names-test a labels (λ v. p v || q v) (is_seen a lo hi (y + 1) z) faces es gs
+    (λ v. seen_more a lo hi y z v box row.y_low row.y_high row.z_low row.z_high)
+    (names-both a labels p q faces es fs gs so_far gained)
+
+pub named-layer : (a : Axes) (labels : List ℕ) (faces : ℕ) (lo hi : List ℕ) (z : ℕ) (es fs : List Region)
+    → AreRowsNamed a labels faces lo hi (get_or hi 1 0) z es fs → AreRowsNamed a labels faces lo hi 0 (z + 1) es fs
+named-layer a labels faces lo hi z es fs so_far =
+    names-test a labels (is_seen a lo hi (get_or hi 1 0) z) (is_seen a lo hi 0 (z + 1)) faces es fs (seen_layer a lo hi z) so_far
+
+pub named-gained : (a : Axes) (labels : List ℕ) (faces : ℕ) (lo hi : List ℕ) (es fs : List Region)
+    → AreRowsNamed a labels faces lo hi 0 (get_or hi 2 0) es fs → GainsNames a labels (in_box a lo hi) faces es fs
+named-gained a labels faces lo hi es fs all =
+    names-test a labels (is_seen a lo hi 0 (get_or hi 2 0)) (in_box a lo hi) faces es fs (seen_all a lo hi) all

@@ -1,0 +1,14 @@
+pub mod RegionLists
+pub mod Gaining
+pub mod EdgeSums
+pub mod RegionSums
+pub mod OneEdge
+pub mod ContactGains
+pub mod VoxelTests
+pub mod NameGains
+pub mod ContactRows
+pub mod BoxRows
+pub mod Layers
+pub mod InsideEdges
+pub mod AxisContacts
+pub mod FaceNames

@@ -1,0 +1,268 @@
+-- Lists of regions that gain the names of the voxels that pass a test: none, one, and two tests one after the other.
+use Rattle.std.proofs.Common.{◌≡◌, ◌≢◌, ◌⊎◌, inl, inr, ℕ, zero, suc, ◌+◌, ◌<◌, ◌≤◌, Bool, true, false, cond, ◌&&◌, ◌||◌, eqb, ltb, leb, List, [], ◌∷◌, ◌++◌, map, filter, fold, get_or, refl, sym, ap, ◌∙◌, subst, zero-add, arith, bit_or}
+use Rattle.std.specs.List.{list_any, range_with_len}
+use Rattle.std.proofs.lemmas.Bool.{and_parts, and_from, eqb-true, eq-eqb, ne_eqb, or_cases, or_left, or_right, false_from_ne_true, false≢true}
+use Rattle.std.proofs.lemmas.Bool.Decides.{nat_tests}
+use Rattle.std.proofs.lemmas.List.Elements.{All-push, filter-append}
+use Rattle.std.proofs.lemmas.List.{map-append, append-nil}
+use Rattle.std.proofs.lemmas.List.Sums.{fold_push}
+use Rattle.std.proofs.lemmas.List.Folds.{Any-from_list_any, list_any-append, list_any_at}
+use Rattle.std.proofs.lemmas.List.FromFn.{length-range_with_len, get_or-range_with_len}
+use mathlib.Core.Path.{fun_ext}
+use Rattle.agglo_model.specs.Axes.{Axes, voxel_count}
+use Rattle.agglo_model.specs.Basins.{label_of}
+use Rattle.agglo_model.specs.RegionGraph.{Region}
+use Rattle.region_graph.specs.Lists.{AreNamed, has_name, faces_in}
+use Rattle.region_graph.specs.Boxes.{GainsNames, in_run, name_among}
+use Rattle.region_graph.proofs.RegionLists.{has_bit, has_bit-or, same_by_bits}
+use Rattle.region_graph.proofs.VoxelTests.{same_tests}
+
+-- ---- names among the voxels that pass a test
+
+pub among_from : (a : Axes) (labels : List ℕ) (test : ℕ → Bool) (x v : ℕ) → v < voxel_count a → test v ≡ true
+    → label_of labels v ≡ x → name_among a labels test x ≡ true
+among_from a labels test x v below pass name =
+    let len = length-range_with_len 0 (voxel_count a) in
+    list_any_at (λ w. test w && eqb (label_of labels w) x) (range_with_len 0 (voxel_count a)) v 0 (omega arith)
+    (ap (λ w. test w && eqb (label_of labels w) x) (get_or-range_with_len 0 (voxel_count a) v 0 below ∙ zero-add v)
+    ∙ and_from (test v) (eqb (label_of labels v) x) pass (eq-eqb (label_of labels v) x name))
+
+pub record IsAmong (a : Axes) (labels : List ℕ) (test : ℕ → Bool) (x : ℕ) : Type 0 where
+  pub voxel : ℕ
+  pub below : voxel < voxel_count a
+  pub passes : test voxel ≡ true
+  pub name : label_of labels voxel ≡ x
+
+pub among_is : (a : Axes) (labels : List ℕ) (test : ℕ → Bool) (x : ℕ) → name_among a labels test x ≡ true
+    → IsAmong a labels test x
+among_is a labels test x pass =
+    let found = Any-from_list_any (λ w. test w && eqb (label_of labels w) x) (range_with_len 0 (voxel_count a)) pass in
+    let len = length-range_with_len 0 (voxel_count a) in
+    let parts = and_parts (test found.1) (eqb (label_of labels found.1) x) found.4 in
+    let index : found.0 < voxel_count a = omega (arith, found.2, len) in
+    let at_index = sym found.3 ∙ get_or-range_with_len 0 (voxel_count a) found.0 found.1 index in
+    record { voxel = found.1; below = omega (arith, at_index); passes = parts.0; name = eqb-true (label_of labels found.1) x parts.1 }
+
+either_of : (p q l : Bool) → ((p || q) && l) ≡ ((p && l) || (q && l))
+either_of true true true = refl
+either_of true true false = refl
+either_of true false true = refl
+either_of true false false = refl
+either_of false q l = refl
+
+mix_of : (b c d e : Bool) → ((b || c) || (d || e)) ≡ ((b || d) || (c || e))
+mix_of true c d e = refl
+mix_of false true true e = refl
+mix_of false true false e = refl
+mix_of false false d e = refl
+
+any_or : (p q : ℕ → Bool) (vs : List ℕ) → list_any (λ v. p v || q v) vs ≡ (list_any p vs || list_any q vs)
+any_or p q [] = refl
+any_or p q (v ∷ vs) = ap (λ b. (p v || q v) || b) (any_or p q vs) ∙ mix_of (p v) (q v) (list_any p vs) (list_any q vs)
+
+pub among-either : (a : Axes) (labels : List ℕ) (p q : ℕ → Bool) (x : ℕ)
+    → name_among a labels (λ v. p v || q v) x ≡ (name_among a labels p x || name_among a labels q x)
+among-either a labels p q x =
+    let vs = range_with_len 0 (voxel_count a) in
+    ap (λ test. list_any test vs) (fun_ext (λ v. either_of (p v) (q v) (eqb (label_of labels v) x)))
+    ∙ any_or (λ v. p v && eqb (label_of labels v) x) (λ v. q v && eqb (label_of labels v) x) vs
+
+-- one voxel
+itself : (k : ℕ) → eqb k k ≡ true
+itself k = grind (arith, nat_tests)
+
+pub among-one : (a : Axes) (labels : List ℕ) (k x : ℕ) → k < voxel_count a
+    → name_among a labels (λ v. eqb v k) x ≡ eqb (label_of labels k) x
+among-one a labels k x below = same_tests (name_among a labels (λ v. eqb v k) x) (eqb (label_of labels k) x)
+    (λ pass. let at = among_is a labels (λ v. eqb v k) x pass in
+    eq-eqb (label_of labels k) x (ap (label_of labels) (sym (eqb-true at.voxel k at.passes)) ∙ at.name))
+    (λ pass. among_from a labels (λ v. eqb v k) x k below (itself k) (eqb-true (label_of labels k) x pass))
+
+-- ---- what a list gains
+
+-- tests that find the same names
+pub names-same : (a : Axes) (labels : List ℕ) (p q : ℕ → Bool) (faces : ℕ) (es fs : List Region)
+    → ((x : ℕ) → x ≢ 0 → name_among a labels p x ≡ name_among a labels q x)
+    → GainsNames a labels p faces es fs → GainsNames a labels q faces es fs
+names-same a labels p q faces es fs same gained = record {
+  named = gained.named;
+  names = λ x name. gained.names x name ∙ ap (λ b. has_name es x || b) (same x name);
+  with_faces = λ x name. gained.with_faces x name
+      ∙ ap (λ b. cond b (bit_or (faces_in es x) faces) (faces_in es x)) (same x name);
+}
+
+pub names-test : (a : Axes) (labels : List ℕ) (p q : ℕ → Bool) (faces : ℕ) (es fs : List Region) → ((v : ℕ) → p v ≡ q v)
+    → GainsNames a labels p faces es fs → GainsNames a labels q faces es fs
+names-test a labels p q faces es fs same gained =
+    subst (λ test. GainsNames a labels test faces es fs) (fun_ext same) gained
+
+-- the same by equal arguments
+pub names-equal : (a b : Axes) (labels other : List ℕ) (p q : ℕ → Bool) (faces bits : ℕ) (es fs : List Region)
+    → a ≡ b → labels ≡ other → ((v : ℕ) → p v ≡ q v) → faces ≡ bits
+    → GainsNames a labels p faces es fs → GainsNames b other q bits es fs
+names-equal a b labels other p q faces bits es fs axes_are labels_are tests bits_are gained =
+    subst (λ z. GainsNames z other q bits es fs) axes_are
+    (subst (λ z. GainsNames a z q bits es fs) labels_are
+    (subst (λ z. GainsNames a labels q z es fs) bits_are (names-test a labels p q faces es fs tests gained)))
+
+or_nothing : (b : Bool) → b ≡ (b || false)
+or_nothing true = refl
+or_nothing false = refl
+
+pub names-nothing : (a : Axes) (labels : List ℕ) (test : ℕ → Bool) (faces : ℕ) (es : List Region)
+    → ((v : ℕ) → test v ≡ false) → GainsNames a labels test faces es es
+names-nothing a labels test faces es fails = record {
+  named = λ named. named;
+  names = λ x name. or_nothing (has_name es x) ∙ ap (λ b. has_name es x || b) (sym (none x));
+  with_faces = λ x name. ap (λ b. cond b (bit_or (faces_in es x) faces) (faces_in es x)) (sym (none x));
+}
+  where
+    none : (x : ℕ) → name_among a labels test x ≡ false
+    none x = false_from_ne_true (name_among a labels test x) (λ pass.
+        let at = among_is a labels test x pass in false≢true (sym (fails at.voxel) ∙ at.passes))
+
+or_together : (b c d : Bool) → ((b || c) || d) ≡ (b || (c || d))
+or_together true c d = refl
+or_together false c d = refl
+
+or_twice : (b c : Bool) → ((b || c) || c) ≡ (b || c)
+or_twice true c = refl
+or_twice false true = refl
+or_twice false false = refl
+
+or_again : (f b : ℕ) → bit_or (bit_or f b) b ≡ bit_or f b
+or_again f b = same_by_bits (bit_or (bit_or f b) b) (bit_or f b) (λ i.
+    has_bit-or (bit_or f b) b i ∙ ap (λ t. t || has_bit b i) (has_bit-or f b i)
+    ∙ or_twice (has_bit f i) (has_bit b i) ∙ sym (has_bit-or f b i))
+
+faces_twice : (p q : Bool) (f b : ℕ)
+    → cond q (bit_or (cond p (bit_or f b) f) b) (cond p (bit_or f b) f) ≡ cond (p || q) (bit_or f b) f
+faces_twice true true f b = or_again f b
+faces_twice true false f b = refl
+faces_twice false q f b = refl
+
+-- two tests, one after the other
+pub names-both : (a : Axes) (labels : List ℕ) (p q : ℕ → Bool) (faces : ℕ) (es fs gs : List Region)
+    → GainsNames a labels p faces es fs → GainsNames a labels q faces fs gs
+    → GainsNames a labels (λ v. p v || q v) faces es gs
+names-both a labels p q faces es fs gs one other = record {
+  named = λ named. other.named (one.named named);
+  names = λ x name.
+      other.names x name ∙ ap (λ b. b || name_among a labels q x) (one.names x name)
+      ∙ or_together (has_name es x) (name_among a labels p x) (name_among a labels q x)
+      ∙ ap (λ b. has_name es x || b) (sym (among-either a labels p q x));
+  with_faces = λ x name.
+      other.with_faces x name
+      ∙ ap (λ f. cond (name_among a labels q x) (bit_or f faces) f) (one.with_faces x name)
+      ∙ faces_twice (name_among a labels p x) (name_among a labels q x) (faces_in es x) faces
+      ∙ ap (λ b. cond b (bit_or (faces_in es x) faces) (faces_in es x)) (sym (among-either a labels p q x));
+}
+
+-- ---- one voxel
+
+or_last : (b c : Bool) → (b || (c || false)) ≡ (b || c)
+or_last true c = refl
+or_last false true = refl
+or_last false false = refl
+
+faces_push : (es : List Region) (r : Region) (x : ℕ) (b : Bool) → eqb r.name x ≡ b
+    → faces_in (es ++ r ∷ []) x ≡ cond b (bit_or (faces_in es x) r.faces) (faces_in es x)
+faces_push es r x b is =
+    ap (λ rs. fold bit_or 0 (map (λ (s : Region). s.faces) rs)) (filter-append (λ (s : Region). eqb s.name x) es (r ∷ []))
+    ∙ step b is
+  where
+    step : (b : Bool) → eqb r.name x ≡ b
+        → fold bit_or 0 (map (λ (s : Region). s.faces) (filter (λ (s : Region). eqb s.name x) es ++ cond (eqb r.name x) (r ∷ []) []))
+        ≡ cond b (bit_or (faces_in es x) r.faces) (faces_in es x)
+    step true is =
+        let kept = filter (λ (s : Region). eqb s.name x) es in
+        (λ i. fold bit_or 0 (map (λ (s : Region). s.faces) (kept ++ cond (is i) (r ∷ []) [])))
+        ∙ ap (fold bit_or 0) (map-append (λ (s : Region). s.faces) kept (r ∷ []))
+        ∙ fold_push bit_or 0 (map (λ (s : Region). s.faces) kept) r.faces
+    step false is =
+        let kept = filter (λ (s : Region). eqb s.name x) es in
+        (λ i. fold bit_or 0 (map (λ (s : Region). s.faces) (kept ++ cond (is i) (r ∷ []) [])))
+        ∙ ap (λ rs. fold bit_or 0 (map (λ (s : Region). s.faces) rs)) (append-nil kept)
+
+pub names-voxel : (a : Axes) (labels : List ℕ) (k faces : ℕ) (es : List Region) → k < voxel_count a → label_of labels k ≢ 0
+    → GainsNames a labels (λ v. eqb v k) faces es (es ++ record { name = label_of labels k; faces = faces } ∷ [])
+names-voxel a labels k faces es below some =
+    let r : Region = record { name = label_of labels k; faces = faces } in
+    record {
+      named = λ named. All-push (λ s. s.name ≢ 0) es r named some;
+      names = λ x name. list_any-append (λ s. eqb s.name x) es (r ∷ []) ∙ or_last (has_name es x) (eqb r.name x)
+          ∙ ap (λ b. has_name es x || b) (sym (among-one a labels k x below));
+      with_faces = λ x name. faces_push es r x (eqb r.name x) refl
+          ∙ ap (λ b. cond b (bit_or (faces_in es x) faces) (faces_in es x)) (sym (among-one a labels k x below));
+    }
+
+-- ---- a run of voxels, each name told where it differs from the one before
+
+-- the names of the run up to v were gained, and the last label is background or among them
+pub record IsToldTo (a : Axes) (labels : List ℕ) (from v faces : ℕ) (before now : List Region) (last : ℕ) : Type 0 where
+  pub gains : GainsNames a labels (in_run from v) faces before now
+  pub known : last ≢ 0 → name_among a labels (in_run from v) last ≡ true
+
+run_of : (from v w : ℕ) → from ≤ v → ((leb from w && ltb w v) || eqb w v) ≡ (leb from w && ltb w (v + 1))
+run_of from v w low = grind (arith, nat_tests)
+
+none_of : (from w : ℕ) → (leb from w && ltb w from) ≡ false
+none_of from w = grind (arith, nat_tests)
+
+last_of : (from v : ℕ) → from ≤ v → (leb from v && ltb v (v + 1)) ≡ true
+last_of from v low = grind (arith, nat_tests)
+
+pub told_none : (a : Axes) (labels : List ℕ) (from faces : ℕ) (es : List Region) → IsToldTo a labels from from faces es es 0
+told_none a labels from faces es = record {
+  gains = names-nothing a labels (in_run from from) faces es (none_of from);
+  known = λ some. absurd (some refl);
+}
+
+more_tests : (a : Axes) (labels : List ℕ) (from v faces : ℕ) (es fs : List Region) → from ≤ v
+    → GainsNames a labels (λ w. in_run from v w || eqb w v) faces es fs → GainsNames a labels (in_run from (v + 1)) faces es fs
+more_tests a labels from v faces es fs low gained =
+    names-test a labels (λ w. in_run from v w || eqb w v) (in_run from (v + 1)) faces es fs (λ w. run_of from v w low) gained
+
+-- the next voxel has another name than the one before, which was added
+pub told_name : (a : Axes) (labels : List ℕ) (from v faces : ℕ) (es fs gs : List Region) (last name next : ℕ)
+    → from ≤ v → v < voxel_count a → IsToldTo a labels from v faces es fs last
+    → name ≡ label_of labels v → name ≢ 0 → gs ≡ fs ++ record { name = name; faces = faces } ∷ [] → next ≡ name
+    → IsToldTo a labels from (v + 1) faces es gs next
+told_name a labels from v faces es fs gs last name next low below so_far name_is some gs_is next_is =
+    let here : label_of labels v ≢ 0 = λ none. some (name_is ∙ none) in
+    let with_name : ℕ → List Region = λ n. fs ++ record { name = n; faces = faces } ∷ [] in
+    record {
+      gains = more_tests a labels from v faces es gs low
+          (subst (GainsNames a labels (λ w. in_run from v w || eqb w v) faces es) (sym (gs_is ∙ ap with_name name_is))
+          (names-both a labels (in_run from v) (λ w. eqb w v) faces es fs (with_name (label_of labels v)) so_far.gains
+          (names-voxel a labels v faces fs below here)));
+      known = λ _. among_from a labels (in_run from (v + 1)) next v below (last_of from v low) (sym (next_is ∙ name_is));
+    }
+
+known_or : (b c : Bool) (x name : ℕ) → eqb name x ≡ c → (name ≡ x → b ≡ true) → b ≡ (b || c)
+known_or true c x name is known = refl
+known_or false true x name is known = known (eqb-true name x is)
+known_or false false x name is known = refl
+
+-- the next voxel is background, or has the name of the one before
+pub told_again : (a : Axes) (labels : List ℕ) (from v faces : ℕ) (es fs gs : List Region) (last next : ℕ)
+    → from ≤ v → v < voxel_count a → IsToldTo a labels from v faces es fs last
+    → label_of labels v ≡ 0 ⊎ label_of labels v ≡ last → gs ≡ fs → next ≡ label_of labels v
+    → IsToldTo a labels from (v + 1) faces es gs next
+told_again a labels from v faces es fs gs last next low below so_far again gs_is next_is = record {
+  gains = more_tests a labels from v faces es gs low
+      (subst (GainsNames a labels (λ w. in_run from v w || eqb w v) faces es) (sym gs_is)
+      (names-same a labels (in_run from v) (λ w. in_run from v w || eqb w v) faces es fs (λ x name.
+      known_or (name_among a labels (in_run from v) x) (eqb (label_of labels v) x) x (label_of labels v) refl
+      (λ is. told x is name again)
+      ∙ ap (λ b. name_among a labels (in_run from v) x || b) (sym (among-one a labels v x below))
+      ∙ sym (among-either a labels (in_run from v) (λ w. eqb w v) x)) so_far.gains));
+  known = λ _. among_from a labels (in_run from (v + 1)) next v below (last_of from v low) (sym next_is);
+}
+  where
+    told : (x : ℕ) → label_of labels v ≡ x → x ≢ 0 → label_of labels v ≡ 0 ⊎ label_of labels v ≡ last
+        → name_among a labels (in_run from v) x ≡ true
+    told x is name (inl none) = absurd (name (sym is ∙ none))
+    told x is name (inr same) =
+        let at_last : last ≡ x = sym same ∙ is in
+        subst (λ y. name_among a labels (in_run from v) y ≡ true) at_last (so_far.known (λ none. name (sym at_last ∙ none)))

@@ -1,0 +1,74 @@
+ghost use Rattle.std.specs.Prelude.{◌≡◌, ◌<◌, ◌≤◌, ◌+◌, ◌++◌, ◌∷◌, [], AllPairs, IfOk};
+ghost use Rattle.agglo_model.specs.PairOrder.{most_edges};
+ghost use Rattle.agglo_model.specs.RegionGraph.{StandsBefore};
+ghost use Rattle.region_graph.specs.Lists.{AreNamed, AreOrdered, AreTouching, Gains, IsFit, SameContacts, SameRegions, count_of, order_of, with_contact, with_faces_of};
+
+use crate::graph::{Edge, Region};
+use agglo_model::Memory;
+use std::alloc::Global;
+
+/// Sorts edges by their two names, and adds up those between the same two.
+pub fn sum_contacts(alloc: Global, mut edges: Vec<Edge>) -> Result<Vec<Edge>, Memory>
+    requires within { count_of edges.items ≤ most_edges }
+    requires ordered { AreOrdered edges.items }
+    ensures ascend { IfOk result (λ summed. AllPairs StandsBefore summed.items) }
+    ensures ordered { IfOk result (λ summed. AreOrdered summed.items) }
+    ensures touching { IfOk result (λ summed. AreTouching summed.items) }
+    ensures contacts { IfOk result (λ summed. SameContacts edges.items summed.items) }
+    ensures count { IfOk result (λ summed. count_of summed.items ≡ count_of edges.items) }
+{
+    edges.sort_unstable_by_key(|edge| edge.order());
+    let mut summed = Vec::new(alloc);
+    for edge in &edges {
+        add_edge(&mut summed, *edge)?;
+    }
+    Ok(summed)
+}
+
+/// Adds an edge to the last of the list, where that is between the same two names, and else appends it.
+pub(crate) fn add_edge(edges: &mut Vec<Edge>, edge: Edge) -> Result<(), Memory>
+    requires { count_of edges.old.items + edge.contact.count ≤ most_edges }
+    ensures gains { IfOk result (λ _. Gains order_of with_contact edge edges.old.items edges.new.items) }
+    ensures contacts { IfOk result (λ _. SameContacts (edges.old.items ++ edge ∷ []) edges.new.items) }
+    ensures count { IfOk result (λ _. count_of edges.new.items ≡ count_of edges.old.items + edge.contact.count) }
+    ensures fits { IsFit edge }
+{
+    let order = edge.order();
+    if let Some(last) = edges.last_mut() {
+        if last.order() == order {
+            last.contact = last.contact.add(edge.contact);
+            return Ok(());
+        }
+    }
+    edges.push(edge)?;
+    Ok(())
+}
+
+/// Sorts regions by name, and puts together the faces of those of one name.
+pub fn join_regions(alloc: Global, mut regions: Vec<Region>) -> Result<Vec<Region>, Memory>
+    requires { AreNamed regions.items }
+    ensures ascend { IfOk result (λ joined. AllPairs (λ r s. r.name < s.name) joined.items) }
+    ensures named { IfOk result (λ joined. AreNamed joined.items) }
+    ensures same { IfOk result (λ joined. SameRegions regions.items joined.items) }
+{
+    regions.sort_unstable_by_key(|region| region.name);
+    let mut joined = Vec::new(alloc);
+    for region in &regions {
+        add_region(&mut joined, *region)?;
+    }
+    Ok(joined)
+}
+
+/// Gives the faces of a region to the last of the list, where that has its name, and else appends it.
+pub(crate) fn add_region(regions: &mut Vec<Region>, region: Region) -> Result<(), Memory>
+    ensures { IfOk result (λ _. Gains (λ r. r.name) with_faces_of region regions.old.items regions.new.items) }
+{
+    if let Some(last) = regions.last_mut() {
+        if last.name == region.name {
+            last.faces |= region.faces;
+            return Ok(());
+        }
+    }
+    regions.push(region)?;
+    Ok(())
+}
