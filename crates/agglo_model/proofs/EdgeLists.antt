@@ -1,12 +1,12 @@
 -- Any list of edges put into the order of a graph's edges, with edges between the same names added up.
-use Rattle.std.proofs.Common.{◌≡◌, ◌≢◌, ◌⊎◌, inl, inr, ℕ, ◌+◌, ◌<◌, ◌≤◌, min, max, Bool, true, false, cond, ◌&&◌, ◌||◌, eqb, ltb, List, [], ◌∷◌, refl, sym, ap, ◌∙◌, subst, arith}
+use Rattle.std.proofs.Common.{◌≡◌, ◌≢◌, ◌⊎◌, inl, inr, ℕ, ◌<◌, min, max, Bool, true, false, cond, ◌&&◌, ◌||◌, eqb, ltb, List, [], ◌∷◌, refl, sym, ap, ◌∙◌, subst, arith}
 use Rattle.std.specs.Prelude.{Contains, AllPairs}
 use Rattle.std.proofs.lemmas.Bool.Decides.{nat_tests}
 use Rattle.std.proofs.lemmas.Bool.{false≢true}
 use Rattle.std.proofs.lemmas.List.Kept.{AllPairs-cons}
 use Rattle.agglo_model.specs.PairOrder.{Contact, added}
 use Rattle.agglo_model.specs.Contacts.{are}
-use Rattle.agglo_model.specs.RegionGraph.{GraphEdge, StandsBefore, is_between, no_contact, contact_in}
+use Rattle.agglo_model.specs.RegionGraph.{GraphEdge, StandsBefore, is_between}
 use Rattle.agglo_model.proofs.Members.{contains_head, contains_tail, contains_cases, contains_none, all_pairs_head, all_pairs_tail, All-from_contains}
 use Rattle.agglo_model.proofs.GraphContacts.{joint, contact_in-is, added_assoc, added_comm}
 use Rattle.agglo_model.proofs.GraphMerges.{SameContacts}
@@ -39,8 +39,10 @@ stands-is e f = record {
   where
     before_of : (a b p q : ℕ) → (ltb a p || (eqb a p && ltb b q)) ≡ true → (a < p) ⊎ ((a ≡ p) × (b < q))
     before_of a b p q h = grind (arith, nat_tests)
+
     same_of : (a b p q : ℕ) → (ltb a p || (eqb a p && ltb b q)) ≡ false → (eqb a p && eqb b q) ≡ true → (a ≡ p) × (b ≡ q)
     same_of a b p q g h = grind (arith, nat_tests)
+
     after_of : (a b p q : ℕ) → (ltb a p || (eqb a p && ltb b q)) ≡ false → (eqb a p && eqb b q) ≡ false
         → (p < a) ⊎ ((p ≡ a) × (q < b))
     after_of a b p q g h = grind (arith, nat_tests)
@@ -62,6 +64,7 @@ inserted-names P e (f ∷ fs) here some have g inside =
   where
     first : (P f.a f.b × (0 < f.contact.count))
     first = have f (contains_head f fs)
+
     step : (b c : Bool) → HaveNames P (inserted e fs)
         → Contains (cond b (e ∷ f ∷ fs) (cond c (record f { contact = added e.contact f.contact } ∷ fs) (f ∷ inserted e fs))) g
         → P g.a g.b × (0 < g.contact.count)
@@ -140,6 +143,7 @@ inserted-contacts past x y e (f ∷ fs) =
   where
     rest : Contact
     rest = joint past (is_between x y) fs
+
     step : (b c : Bool) → Stands e f b c
         → joint past (is_between x y) (inserted e fs) ≡ joint past (is_between x y) (e ∷ fs)
         → joint past (is_between x y) (cond b (e ∷ f ∷ fs) (cond c (record f { contact = added e.contact f.contact } ∷ fs) (f ∷ inserted e fs)))
@@ -173,6 +177,7 @@ listed-names P (e ∷ es) each =
   where
     differ : (a b : ℕ) → eqb a b ≡ false → a ≢ b
     differ a b fail = grind (arith, nat_tests)
+
     step : (t : Bool) → (t ≡ false → P (min e.a e.b) (max e.a e.b)) → HaveNames P (listed es)
         → HaveNames P (cond t (listed es) (inserted (in_order e) (listed es)))
     step true here rest = rest

@@ -1,12 +1,12 @@
 -- There is a graph after each merge of two regions in contact.
-use Rattle.std.proofs.Common.{◌≡◌, ◌≢◌, ◌⊎◌, inl, inr, ℕ, ◌+◌, ◌<◌, min, max, Bool, true, false, cond, eqb, List, [], ◌∷◌, refl, sym, ap, ◌∙◌, subst, arith}
+use Rattle.std.proofs.Common.{◌≡◌, ◌≢◌, ◌⊎◌, inl, inr, ℕ, ◌<◌, min, max, Bool, true, false, cond, eqb, List, refl, sym, ap, ◌∙◌, subst, arith}
 use Rattle.std.specs.Prelude.{map, Contains, bit_or}
 use Rattle.std.proofs.lemmas.Bool.Decides.{nat_tests}
 use Rattle.agglo_model.specs.Greedy.{Merge}
-use Rattle.agglo_model.specs.RegionGraph.{Region, GraphEdge, RegionGraph, IsGraph, HasRegion}
+use Rattle.agglo_model.specs.RegionGraph.{Region, GraphEdge, RegionGraph, IsGraph}
 use Rattle.agglo_model.specs.Settling.{edge_after, edge_of, name_after, HasBothFaces, IsGraphAfter}
 use Rattle.agglo_model.proofs.Members.{Contains-unmap}
-use Rattle.agglo_model.proofs.EdgeLists.{HaveNames, listed, listed-names, listed-ascends, listed-contacts}
+use Rattle.agglo_model.proofs.EdgeLists.{listed, listed-names, listed-ascends, listed-contacts}
 use Rattle.agglo_model.proofs.RegionLists.{one_region, taken_over, taken_over-was, taken_over-others, taken_over-survivor, taken_over-ascends}
 
 -- a list has a region of this name
@@ -68,9 +68,11 @@ has_name graph m known x (faces, inside) =
     step true u not_b at_s not_s = (bit_or known.own known.taken, has_survivor graph m known)
     step false true not_b at_s not_s =
         subst (Has (next graph m known).regions) (sym (at_s refl)) (bit_or known.own known.taken, has_survivor graph m known)
-    step false false not_b at_s not_s =
-        (faces, taken_over-others m.survivor m.absorbed (bit_or known.own known.taken) graph.regions
-        (record { name = x; faces = faces }) inside (not_b refl) (not_s refl))
+    step false false not_b at_s not_s = (
+      faces,
+      taken_over-others m.survivor m.absorbed (bit_or known.own known.taken) graph.regions
+          (record { name = x; faces = faces }) inside (not_b refl) (not_s refl),
+    )
 
 min_max : (Q : ℕ → Type 0) (a b : ℕ) → Q a → Q b → Q (min a b) × Q (max a b)
 min_max Q a b at_a at_b = elim (cases a b) [
@@ -156,11 +158,15 @@ others_there graph m known r rs inside =
 pub after_exists : (graph : RegionGraph) (m : Merge) → IsGraph graph → Contains graph.edges (edge_of m)
     → (after : RegionGraph) × IsGraphAfter graph m after
 after_exists graph m is inside =
-    let known = joins_of graph m is inside in
-    (next graph m known, record {
-      graph_is = next_is_graph graph m known;
-      survivor = λ faces. (survivor_faces graph m known faces, faces_there graph m known faces);
-      others = λ r rs. (others_there graph m known r rs,
-          λ here. taken_over-others m.survivor m.absorbed (bit_or known.own known.taken) graph.regions r here.0 here.1 rs);
-      contacts = λ past x y xy. listed-contacts (map (edge_after m) graph.edges) past x y xy;
-    })
+    let known = joins_of graph m is inside in (
+      next graph m known,
+      record {
+        graph_is = next_is_graph graph m known;
+        survivor = λ faces. (survivor_faces graph m known faces, faces_there graph m known faces);
+        others = λ r rs. (
+          others_there graph m known r rs,
+          λ here. taken_over-others m.survivor m.absorbed (bit_or known.own known.taken) graph.regions r here.0 here.1 rs,
+        );
+        contacts = λ past x y xy. listed-contacts (map (edge_after m) graph.edges) past x y xy;
+      },
+    )

@@ -1,11 +1,10 @@
 -- The contact of two names by a list of graph edges: what several edges make together.
-use Rattle.std.proofs.Common.{◌≡◌, ◌≢◌, ◌⊎◌, inl, inr, ℕ, zero, suc, ◌+◌, ◌<◌, ◌≤◌, min, Bool, true, false, cond, ◌&&◌, ◌||◌, eqb, List, [], ◌∷◌, ◌++◌, length, get_or, fold, sum_by, refl, sym, ap, ◌∙◌, subst, arith}
+use Rattle.std.proofs.Common.{◌≡◌, inl, inr, ℕ, ◌+◌, ◌<◌, ◌≤◌, Bool, true, false, cond, ◌&&◌, ◌||◌, List, [], ◌∷◌, ◌++◌, fold, sum_by, refl, sym, ap, ◌∙◌, subst, arith}
 use Rattle.std.specs.Prelude.{map, filter, Contains, IsPermutation}
 use Rattle.std.proofs.lemmas.List.Sums.{sum_by-cons}
 use Rattle.std.proofs.lemmas.List.Sorted.{IsPermutation-sym, Contains-permutation, sum_by-IsPermutation}
 use Rattle.std.proofs.lemmas.Bool.{false≢true}
-use Rattle.std.proofs.lemmas.Bool.Decides.{nat_tests}
-use Rattle.agglo_model.specs.PairOrder.{Contact, Before, added}
+use Rattle.agglo_model.specs.PairOrder.{Contact, added}
 use Rattle.agglo_model.specs.RegionGraph.{GraphEdge, is_between, no_contact, all_added, contact_in}
 use Rattle.agglo_model.proofs.Members.{contains_head, contains_tail, contains_cases, contains_none}
 
@@ -165,6 +164,7 @@ joint-count past p (f ∷ es) e inside pass = elim (contains_cases f e es inside
         → e.contact.count ≤ (cond b (added f.contact (joint past p es)) (joint past p es)).count
     here true b same = omega arith
     here false b same = absurd (false≢true b)
+
     there : (b : Bool) → e.contact.count ≤ (joint past p es).count
         → e.contact.count ≤ (cond b (added f.contact (joint past p es)) (joint past p es)).count
     there true low = omega arith
@@ -183,6 +183,7 @@ joint-tie past p (f ∷ es) e inside pass = elim (contains_cases f e es inside) 
         → (cond b (added f.contact (joint past p es)) (joint past p es)).tie ≤ e.contact.tie
     here true b same = omega arith
     here false b same = absurd (false≢true b)
+
     there : (b : Bool) → (joint past p es).tie ≤ e.contact.tie
         → (cond b (added f.contact (joint past p es)) (joint past p es)).tie ≤ e.contact.tie
     there true low = omega arith

@@ -1,13 +1,12 @@
 -- The edges of a region graph by their contacts: an edge is there exactly where its names are in contact.
-use Rattle.std.proofs.Common.{◌≡◌, ◌≢◌, ◌⊎◌, inl, inr, ℕ, ◌+◌, ◌<◌, ◌≤◌, min, Bool, true, false, cond, ◌&&◌, ◌||◌, eqb, List, [], ◌∷◌, refl, sym, ap, ◌∙◌, subst, arith}
-use Rattle.std.specs.Prelude.{map, Contains, AllPairs}
+use Rattle.std.proofs.Common.{◌≡◌, ◌⊎◌, inl, inr, ℕ, ◌+◌, ◌<◌, ◌≤◌, Bool, true, false, cond, List, [], ◌∷◌, sym, ap, ◌∙◌, subst, arith}
+use Rattle.std.specs.Prelude.{Contains, AllPairs}
 use Rattle.std.proofs.lemmas.Bool.Decides.{nat_tests}
 use Rattle.agglo_model.specs.PairOrder.{Contact, added}
 use Rattle.agglo_model.specs.Contacts.{are}
 use Rattle.agglo_model.specs.RegionGraph.{GraphEdge, RegionGraph, IsGraph, StandsBefore, is_between, no_contact, contact_in}
 use Rattle.agglo_model.proofs.Members.{contains_head, contains_tail, contains_cases, contains_none, all_pairs_head, all_pairs_tail}
-use Rattle.agglo_model.proofs.GraphContacts.{joint, contact_in-is, joint-none, joint-some, joint-count, added-none}
-use Rattle.agglo_model.proofs.GraphMerges.{contact_in-swap}
+use Rattle.agglo_model.proofs.GraphContacts.{joint, contact_in-is, joint-none, joint-some, added-none}
 
 -- every edge has its smaller name first
 abbrev pub HaveOrder : List GraphEdge → Type 0
@@ -40,7 +39,7 @@ one_edge : (past : ℕ) (es : List GraphEdge) (e : GraphEdge) → AllPairs Stand
 unfolding joint
 one_edge past [] e ascend order inside = absurd (contains_none e inside)
 one_edge past (f ∷ es) e ascend order inside = by_cases (contains_cases f e es inside)
-  (one_edge past es e (all_pairs_tail StandsBefore f es ascend) (λ g later. order g (contains_tail f g es later)))
+    (one_edge past es e (all_pairs_tail StandsBefore f es ascend) (λ g later. order g (contains_tail f g es later)))
   where
     by_cases : (f ≡ e) ⊎ Contains es e → (Contains es e → joint past (is_between e.a e.b) es ≡ added e.contact (no_contact past))
         → cond (is_between e.a e.b f) (added f.contact (joint past (is_between e.a e.b) es)) (joint past (is_between e.a e.b) es)

@@ -1,15 +1,14 @@
 -- A contact that no edge at a region comes before stays one after a merge of two other regions.
-use Rattle.std.proofs.Common.{◌≡◌, ◌≢◌, ◌⊎◌, inl, inr, ℕ, ◌+◌, ◌*◌, ◌<◌, ◌≤◌, min, Bool, true, false, List, refl, sym, ap, sum_by, ◌∙◌, subst, arith}
+use Rattle.std.proofs.Common.{◌≡◌, ◌≢◌, ◌⊎◌, inl, inr, ℕ, ◌+◌, ◌*◌, ◌<◌, ◌≤◌, Bool, true, false, List, refl, sym, ap, sum_by, ◌∙◌, subst, arith}
 use Rattle.std.specs.Prelude.{map, Contains}
 use Rattle.std.proofs.lemmas.List.Sums.{get_or-le-sum_by}
-use Rattle.std.proofs.lemmas.Bool.{false≢true}
 use Rattle.agglo_model.specs.PairOrder.{Contact, Threshold, Before, added}
 use Rattle.agglo_model.specs.Greedy.{Merge}
-use Rattle.agglo_model.specs.RegionGraph.{Region, GraphEdge, RegionGraph, IsGraph, is_between, no_contact, contact_in}
+use Rattle.agglo_model.specs.RegionGraph.{GraphEdge, RegionGraph, IsGraph, is_between, no_contact, contact_in}
 use Rattle.agglo_model.specs.Settling.{IsAt, IsFreeIn, IsReciprocalEdge, IsGraphAfter, edge_after}
-use Rattle.agglo_model.proofs.GraphContacts.{joint, contact_in-is, joint-none, joint-count, joint-tie-le, added-none, none-added}
+use Rattle.agglo_model.proofs.GraphContacts.{contact_in-is, joint-none, joint-count, joint-tie-le, added-none, none-added}
 use Rattle.agglo_model.proofs.GraphMerges.{contact_in-swap, merged-third, merged-gone, merged-others, name_cases}
-use Rattle.agglo_model.proofs.GraphEdges.{edge_contact, edge_contact-low, edge_of_contact, edge_counts, edge_there}
+use Rattle.agglo_model.proofs.GraphEdges.{edge_contact, edge_contact-low, edge_of_contact, edge_there}
 
 -- no edge at x comes before the contact c
 abbrev pub IsFirstAt : RegionGraph → ℕ → Contact → Type 0
@@ -103,16 +102,22 @@ first_both graph is past x y z c low first xy xz some before =
   where
     p : Contact
     p = contact_in past graph.edges x y
+
     q : Contact
     q = contact_in past graph.edges x z
+
     tie_p : (contact_in past graph.edges x y).tie ≤ past
     tie_p = subst (λ d. d.tie ≤ past) (sym (contact_in-is past x y graph.edges)) (joint-tie-le past (is_between x y) graph.edges)
+
     tie_q : (contact_in past graph.edges x z).tie ≤ past
     tie_q = subst (λ d. d.tie ≤ past) (sym (contact_in-is past x z graph.edges)) (joint-tie-le past (is_between x z) graph.edges)
+
     one : 0 < (contact_in past graph.edges x y).count → ¬ (Before (contact_in past graph.edges x y) c)
     one some = first_contact graph is past x y c low first (apart_cases x y xy) some
+
     other : 0 < (contact_in past graph.edges x z).count → ¬ (Before (contact_in past graph.edges x z) c)
     other some = first_contact graph is past x z c low first (apart_cases x z xz) some
+
     by_cases : (0 < (contact_in past graph.edges x y).count) ⊎ ((contact_in past graph.edges x y).count ≡ 0)
         → (0 < (contact_in past graph.edges x z).count) ⊎ ((contact_in past graph.edges x z).count ≡ 0) → ⊥
     by_cases (inl some_p) (inl some_q) =

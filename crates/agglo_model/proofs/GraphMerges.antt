@@ -1,13 +1,13 @@
 -- The contacts of a graph's edges after one of two names has taken the other.
-use Rattle.std.proofs.Common.{◌≡◌, ◌≢◌, ◌⊎◌, inl, inr, ℕ, ◌+◌, ◌<◌, ◌≤◌, Bool, true, false, cond, ◌&&◌, ◌||◌, eqb, List, [], ◌∷◌, refl, sym, ap, ◌∙◌, subst, arith}
-use Rattle.std.specs.Prelude.{map, Contains}
+use Rattle.std.proofs.Common.{◌≡◌, ◌≢◌, ◌⊎◌, inl, inr, ℕ, false, ◌&&◌, ◌||◌, List, refl, sym, ◌∙◌, subst, arith}
+use Rattle.std.specs.Prelude.{map}
 use Rattle.std.proofs.lemmas.Bool.Decides.{nat_tests}
-use Rattle.agglo_model.specs.PairOrder.{Contact, added}
+use Rattle.agglo_model.specs.PairOrder.{added}
 use Rattle.agglo_model.specs.Contacts.{are}
 use Rattle.agglo_model.specs.Greedy.{Merge}
 use Rattle.agglo_model.specs.RegionGraph.{GraphEdge, is_between, no_contact, contact_in}
-use Rattle.agglo_model.specs.Settling.{edge_after, name_after}
-use Rattle.agglo_model.proofs.GraphContacts.{joint, contact_in-is, joint-map, joint-agree, joint-or, joint-none, none-added, added-none, joint-tie-le, added_comm}
+use Rattle.agglo_model.specs.Settling.{edge_after}
+use Rattle.agglo_model.proofs.GraphContacts.{joint, contact_in-is, joint-map, joint-agree, joint-or, joint-none}
 use Rattle.agglo_model.proofs.Renames.{new_name}
 
 swap_of : (p q x y : ℕ) → are p q x y ≡ are p q y x

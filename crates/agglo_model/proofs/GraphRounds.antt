@@ -1,5 +1,5 @@
 -- Merges of reciprocal pairs that share no region, all at once: the same graph as one after another.
-use Rattle.std.proofs.Common.{◌≡◌, ◌≢◌, ◌⊎◌, inl, inr, ℕ, ◌<◌, List, [], ◌∷◌, ◌++◌, refl, sym, ap, ◌∙◌, subst, arith}
+use Rattle.std.proofs.Common.{◌≡◌, ◌≢◌, ◌⊎◌, inl, inr, ℕ, List, [], ◌∷◌, ◌++◌, refl, sym, ap, ◌∙◌, subst, arith}
 use Rattle.std.specs.Prelude.{◌↔◌, map, Contains, AllPairs}
 use Rattle.agglo_model.specs.PairOrder.{Threshold}
 use Rattle.agglo_model.specs.Greedy.{Merge}
@@ -8,7 +8,7 @@ use Rattle.agglo_model.specs.Settling.{IsReciprocalEdge, IsGraphAfter, HasBothFa
 use Rattle.agglo_model.proofs.Members.{contains_head, contains_tail, contains_cases, contains_none, all_pairs_head, all_pairs_tail}
 use Rattle.agglo_model.proofs.GraphMerges.{SameContacts, SameContacts-after}
 use Rattle.agglo_model.proofs.GraphAfter.{after_exists}
-use Rattle.agglo_model.proofs.GraphFirsts.{IsStep, IsApart, still_reciprocal}
+use Rattle.agglo_model.proofs.GraphFirsts.{IsStep, still_reciprocal}
 
 -- merges of reciprocal pairs, one after another, lead from one graph to another
 abbrev pub Leads : Threshold → ℕ → RegionGraph → List Merge → RegionGraph → Type 0
@@ -84,24 +84,30 @@ one_merge : (graph : RegionGraph) (m : Merge) (after : RegionGraph) → IsGraphA
     → IsGraphAfter graph m after
 one_merge graph m after all = record {
   graph_is = all.graph_is;
-  survivor = λ faces. (survivor_of faces, λ both. (all.regions (record { name = m.survivor; faces = faces })).1
-      (inr (m, contains_head m [], refl, both)));
+  survivor = λ faces. (
+    survivor_of faces,
+    λ both. (all.regions (record { name = m.survivor; faces = faces })).1
+        (inr (m, contains_head m [], refl, both)),
+  );
   others = λ r rs. (other_of r rs, λ (inside, rb). (all.regions r).1 (inl (inside, none_of r rs rb)));
   contacts = all.contacts;
 }
   where
     is_m : (n : Merge) → Contains (m ∷ []) n → m ≡ n
     is_m n inside = elim (contains_cases m n [] inside) [ inl same ↦ same | inr none ↦ absurd (contains_none n none) ]
+
     survivor_of : (faces : ℕ) → Contains after.regions (record { name = m.survivor; faces = faces }) → HasBothFaces graph m faces
     survivor_of faces inside = elim ((all.regions (record { name = m.survivor; faces = faces })).0 inside) [
       | inl (there, none) ↦ absurd ((none m (contains_head m [])).0 refl)
       | inr (n, at_n, name, both) ↦ subst (λ z. HasBothFaces graph z faces) (sym (is_m n at_n)) both
     ]
+
     other_of : (r : Region) → r.name ≢ m.survivor → Contains after.regions r → Contains graph.regions r × (r.name ≢ m.absorbed)
     other_of r rs inside = elim ((all.regions r).0 inside) [
       | inl (there, none) ↦ (there, (none m (contains_head m [])).1)
       | inr (n, at_n, name, both) ↦ absurd (rs (name ∙ ap (λ z. z.survivor) (sym (is_m n at_n))))
     ]
+
     none_of : (r : Region) → r.name ≢ m.survivor → r.name ≢ m.absorbed → IsInNone (m ∷ []) r.name
     none_of r rs rb n at_n =
         let same = is_m n at_n in
@@ -112,8 +118,7 @@ is_name x y = grind arith
 
 -- a region of the graph after the first merge, seen from before it
 module _ (graph : RegionGraph) (m : Merge) (next : RegionGraph) (merges : List Merge) (after_m : IsGraphAfter graph m next)
-  (apart : (n : Merge) → Contains merges n → ShareNone m n) where
-
+    (apart : (n : Merge) → Contains merges n → ShareNone m n) where
   -- the regions of another pair are those from before
   both_forth : (n : Merge) → Contains merges n → (faces : ℕ) → HasBothFaces graph n faces → HasBothFaces next n faces
   both_forth n at_n faces both =
@@ -147,22 +152,32 @@ module _ (graph : RegionGraph) (m : Merge) (next : RegionGraph) (merges : List M
     | inl same ↦
         let own : HasBothFaces graph m r.faces = subst (λ z. HasBothFaces graph z r.faces) (sym same) both in
         let at_m : r.name ≡ m.survivor = name ∙ ap (λ z. z.survivor) (sym same) in
-        inl (subst (λ x. Contains next.regions (record { name = x; faces = r.faces })) (sym at_m) ((after_m.survivor r.faces).1 own),
-            λ k at_k. (λ e. (apart k at_k).survivors (sym e ∙ at_m), λ e. (apart k at_k).absorbed_survivor (sym e ∙ at_m)))
+        inl (
+          subst (λ x. Contains next.regions (record { name = x; faces = r.faces })) (sym at_m) ((after_m.survivor r.faces).1 own),
+          λ k at_k. (λ e. (apart k at_k).survivors (sym e ∙ at_m), λ e. (apart k at_k).absorbed_survivor (sym e ∙ at_m)),
+        )
     | inr later ↦ inr (n, later, name, both_forth n later r.faces both)
   ]
 
   region_back : (r : Region) → IsRegionAfter next merges r → IsRegionAfter graph (m ∷ merges) r
   region_back r (inl (inside, none)) = elim (is_name r.name m.survivor) [
     | inl at_s ↦
-        inr (m, contains_head m merges, at_s, (after_m.survivor r.faces).0
-        (subst (λ x. Contains next.regions (record { name = x; faces = r.faces })) at_s inside))
+        inr (
+          m,
+          contains_head m merges,
+          at_s,
+          (after_m.survivor r.faces).0
+              (subst (λ x. Contains next.regions (record { name = x; faces = r.faces })) at_s inside),
+        )
     | inr rs ↦
         let was = (after_m.others r rs).0 inside in
-        inl (was.0, λ n at_n. elim (contains_cases m n merges at_n) [
-          | inl same ↦ (λ e. rs (e ∙ ap (λ z. z.survivor) (sym same)), λ e. was.1 (e ∙ ap (λ z. z.absorbed) (sym same)))
-          | inr later ↦ none n later
-        ])
+        inl (
+          was.0,
+          λ n at_n. elim (contains_cases m n merges at_n) [
+            | inl same ↦ (λ e. rs (e ∙ ap (λ z. z.survivor) (sym same)), λ e. was.1 (e ∙ ap (λ z. z.absorbed) (sym same)))
+            | inr later ↦ none n later
+          ],
+        )
   ]
   region_back r (inr (n, at_n, name, both)) =
       inr (n, contains_tail m n merges at_n, name, both_back n at_n r.faces both)
@@ -207,6 +222,12 @@ round_leads t faces graph m [] after round =
     (round.reciprocal m (contains_head m []), (after, one_merge graph m after round.after_all, refl))
 round_leads t faces graph m (n ∷ merges) after round =
     let pair = round.reciprocal m (contains_head m (n ∷ merges)) in
-    let found = after_exists graph m round.is pair.there in
-    (pair, (found.0, found.1, round_leads t faces found.0 n merges after
-    (rest_of_round t faces graph m found.0 (n ∷ merges) after round found.1)))
+    let found = after_exists graph m round.is pair.there in (
+      pair,
+      (
+        found.0,
+        found.1,
+        round_leads t faces found.0 n merges after
+            (rest_of_round t faces graph m found.0 (n ∷ merges) after round found.1),
+      ),
+    )

@@ -1,5 +1,5 @@
 -- The regions of a graph after one of them has taken another.
-use Rattle.std.proofs.Common.{◌≡◌, ◌≢◌, ◌⊎◌, inl, inr, ℕ, ◌+◌, ◌<◌, Bool, true, false, cond, eqb, List, [], ◌∷◌, refl, sym, ap, ◌∙◌, subst, arith}
+use Rattle.std.proofs.Common.{◌≡◌, ◌≢◌, ◌⊎◌, inl, inr, ℕ, ◌<◌, Bool, true, false, cond, eqb, List, [], ◌∷◌, refl, sym, ap, ◌∙◌, subst, arith}
 use Rattle.std.specs.Prelude.{Contains, AllPairs}
 use Rattle.std.proofs.lemmas.Bool.Decides.{nat_tests}
 use Rattle.std.proofs.lemmas.List.Kept.{AllPairs-cons}
@@ -19,6 +19,7 @@ one_region (q ∷ rs) r s ascend at_r at_s same =
   where
     below : (p : Region) → Contains rs p → q.name < p.name
     below p later = all_pairs_head (λ x y. x.name < y.name) q p rs ascend later
+
     by_cases : (q ≡ r) ⊎ Contains rs r → (q ≡ s) ⊎ Contains rs s → (Contains rs r → Contains rs s → r ≡ s) → r ≡ s
     by_cases (inl one) (inl other) rest = sym one ∙ other
     by_cases (inl one) (inr other) rest =
@@ -109,6 +110,7 @@ taken_over-survivor s b faces (p ∷ rs) r inside name sb =
   where
     own : Region
     own = record { name = s; faces = faces }
+
     step : (t u : Bool) → (t ≡ true → p.name ≡ b) → (u ≡ false → p.name ≢ s) → (p ≡ r) ⊎ Contains rs r
         → (Contains rs r → Contains (taken_over s b faces rs) own)
         → Contains (cond t (taken_over s b faces rs) (cond u (own ∷ taken_over s b faces rs) (p ∷ taken_over s b faces rs))) own
@@ -129,6 +131,7 @@ taken_over-ascends s b faces (p ∷ rs) sb ascend =
     below r inside =
         let was = (taken_over-was s b faces rs r sb inside).2 in
         subst (λ n. p.name < n) was.2 (all_pairs_head (λ x y. x.name < y.name) p was.0 rs ascend was.1)
+
     step : (t u : Bool) → (u ≡ true → p.name ≡ s) → Ascend (taken_over s b faces rs)
         → Ascend (cond t (taken_over s b faces rs) (cond u (record { name = s; faces = faces } ∷ taken_over s b faces rs) (p ∷ taken_over s b faces rs)))
     step true u at_s rest = rest

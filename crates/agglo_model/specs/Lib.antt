@@ -34,6 +34,5 @@ pub mod Segmentation
 pub mod NodeExamples
 pub mod Joining
 pub mod JoiningLaws
-pub mod TreeFile
 pub mod TreeExamples
 pub mod TreeLaws

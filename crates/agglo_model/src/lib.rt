@@ -12,8 +12,8 @@ pub mod laws_of_files;
 pub mod laws_of_means;
 pub mod laws_of_merging;
 pub mod laws_of_nodes;
-pub mod node_examples;
 pub mod laws_of_trees;
+pub mod node_examples;
 pub mod tree_examples;
 
 use std::alloc::{AllocError, AllocFailed};
