@@ -1,18 +1,17 @@
 -- The contacts inside a box, axis by axis.
-use Rattle.std.proofs.Common.{◌≡◌, ℕ, zero, suc, ◌+◌, ◌*◌, ◌/◌, ◌%◌, ◌<◌, ◌≤◌, Bool, true, false, ◌&&◌, ◌||◌, eqb, ltb, List, [], ◌∷◌, get_or, IsTrue, refl, sym, ap, ◌∙◌, subst, arith}
+use Rattle.std.proofs.Common.{◌≡◌, ℕ, ◌+◌, ◌*◌, ◌/◌, ◌%◌, ◌<◌, ◌≤◌, Bool, true, false, ◌&&◌, ◌||◌, eqb, ltb, List, [], IsTrue, refl, sym, ap, ◌∙◌, subst, arith}
 use Rattle.std.proofs.lemmas.Bool.{eqb-true, lt-ltb}
 use Rattle.std.proofs.lemmas.Bool.Decides.{nat_tests}
 use mathlib.Core.Path.{fun_ext}
-use Rattle.agglo_model.specs.Axes.{Axes, IsWithinLimits, voxel_count, edge_count, is_edge}
+use Rattle.agglo_model.specs.Axes.{Axes, voxel_count, edge_count, is_edge}
 use Rattle.agglo_model.specs.Grid.{Grid}
-use Rattle.agglo_model.specs.PairOrder.{most_edges, added}
 use Rattle.agglo_model.specs.Contacts.{joins, total}
 use Rattle.agglo_model.specs.Cutting.{Chunking, IsChunking, node_count, low_corner, high_corner}
 use Rattle.agglo_model.specs.Freezing.{is_inside}
-use Rattle.agglo_model.specs.RegionGraph.{GraphEdge, contact_in, between_inside, no_contact}
+use Rattle.agglo_model.specs.RegionGraph.{GraphEdge, contact_in, between_inside}
 use Rattle.agglo_model.proofs.GraphContacts.{none-added}
 use Rattle.agglo_model.proofs.Totals.{total-tie-le}
-use Rattle.region_graph.specs.Lists.{AreOrdered, count_of}
+use Rattle.region_graph.specs.Lists.{count_of}
 use Rattle.region_graph.specs.Boxes.{GainsContacts, ends_among, in_box, above_lowest}
 use Rattle.region_graph.proofs.ContactGains.{gains-nothing, gains-both, gains-same}
 use Rattle.region_graph.proofs.InsideEdges.{inside_is}
@@ -44,8 +43,10 @@ next_of r k b d same = by_cases (eqb r k) refl
   where
     here_of : (r k : ℕ) (d : Bool) → eqb r k ≡ true → ((ltb r k && d) || (eqb r k && d)) ≡ (ltb r (k + 1) && d)
     here_of r k d here = grind (arith, nat_tests)
+
     other_of : (r k : ℕ) (b d : Bool) → eqb r k ≡ false → ((ltb r k && b) || (eqb r k && d)) ≡ (ltb r (k + 1) && b)
     other_of r k b d other = grind (arith, nat_tests)
+
     by_cases : (t : Bool) → eqb r k ≡ t → ((ltb r k && b) || (eqb r k && d)) ≡ (ltb r (k + 1) && b)
     by_cases true here = subst (λ z. ((ltb r k && z) || (eqb r k && d)) ≡ (ltb r (k + 1) && z)) (sym (same here)) (here_of r k d here)
     by_cases false other = other_of r k b d other

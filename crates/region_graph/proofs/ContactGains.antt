@@ -1,7 +1,5 @@
 -- Lists of edges that gain the contacts of the edges that pass a test: none, one, and two tests one after the other.
-use Rattle.std.proofs.Common.{◌≡◌, ◌≢◌, ℕ, ◌+◌, ◌<◌, ◌≤◌, min, max, Bool, true, false, cond, ◌&&◌, ◌||◌, eqb, List, [], ◌∷◌, ◌++◌, refl, sym, ap, ◌∙◌, subst, arith}
-use Rattle.std.specs.Prelude.{Contains}
-use Rattle.std.proofs.lemmas.Bool.{and_parts}
+use Rattle.std.proofs.Common.{◌≡◌, ℕ, ◌<◌, ◌≤◌, min, max, Bool, true, false, cond, ◌&&◌, ◌||◌, eqb, List, [], ◌∷◌, ◌++◌, refl, sym, ap, ◌∙◌, subst, arith}
 use Rattle.std.proofs.lemmas.Bool.Decides.{nat_tests}
 use mathlib.Core.Path.{fun_ext}
 use Rattle.agglo_model.specs.Axes.{edge_count, is_edge}
@@ -9,7 +7,7 @@ use Rattle.agglo_model.specs.Grid.{Grid, affinity}
 use Rattle.agglo_model.specs.PairOrder.{Contact, added}
 use Rattle.agglo_model.specs.Contacts.{are, is_contact_edge, joins, lower_label, higher_label, total}
 use Rattle.agglo_model.specs.RegionGraph.{GraphEdge, is_between, no_contact, contact_in}
-use Rattle.agglo_model.proofs.GraphContacts.{joint, joint-append, joint-tie-le, contact_in-is, added_assoc, added-none, same_contact}
+use Rattle.agglo_model.proofs.GraphContacts.{joint-append, joint-tie-le, contact_in-is, added_assoc, added-none}
 use Rattle.agglo_model.proofs.Totals.{total-both}
 use Rattle.region_graph.specs.Lists.{AreOrdered, SameContacts}
 use Rattle.region_graph.specs.Boxes.{GainsContacts}

@@ -1,16 +1,15 @@
 -- The contact edges of a run of voxels on one axis, voxel by voxel.
-use Rattle.std.proofs.Common.{◌≡◌, ◌≢◌, ◌⊎◌, inl, inr, ℕ, ◌+◌, ◌*◌, ◌-◌, ◌/◌, ◌%◌, ◌<◌, ◌≤◌, min, max, Bool, true, false, not, ◌&&◌, ◌||◌, eqb, ltb, leb, List, [], ◌∷◌, ◌++◌, refl, sym, ap, ◌∙◌, subst, arith}
+use Rattle.std.proofs.Common.{◌≡◌, ◌≢◌, ◌⊎◌, ℕ, ◌+◌, ◌*◌, ◌-◌, ◌/◌, ◌%◌, ◌<◌, ◌≤◌, min, max, Bool, true, false, not, ◌&&◌, ◌||◌, eqb, ltb, leb, List, [], ◌∷◌, ◌++◌, refl, sym, ap, ◌∙◌, subst, arith}
 use Rattle.std.proofs.lemmas.Bool.{and_from, lt-ltb, eqb-true, false≢true}
 use Rattle.std.proofs.lemmas.Bool.Decides.{nat_tests}
-use Rattle.std.specs.Prelude.{Contains, All}
 use Rattle.std.proofs.lemmas.List.Elements.{All-contains}
-use Rattle.agglo_model.specs.Axes.{voxel_count, edge_count, coordinate, stride, is_edge, higher_end, lower_end}
+use Rattle.agglo_model.specs.Axes.{voxel_count, edge_count, coordinate, stride, is_edge}
 use Rattle.agglo_model.specs.Basins.{label_of}
 use Rattle.agglo_model.specs.Grid.{Grid, affinity}
 use Rattle.agglo_model.specs.Contacts.{are, differ, is_contact_edge, joins, lower_label, higher_label}
 use Rattle.agglo_model.specs.RegionGraph.{GraphEdge}
 use Rattle.agglo_model.proofs.Members.{All-from_contains}
-use Rattle.region_graph.specs.Lists.{AreOrdered, SameContacts, Gains, count_of, order_of, with_contact}
+use Rattle.region_graph.specs.Lists.{SameContacts, Gains, count_of, order_of, with_contact}
 use Rattle.region_graph.specs.Boxes.{GainsContacts, ends_among, in_run}
 use Rattle.region_graph.proofs.Gaining.{each_more}
 use Rattle.region_graph.proofs.ContactGains.{alone, gains-nothing, gains-both, gains-same, gains-edge}
@@ -105,8 +104,11 @@ pub summed_edge : (g : Grid) (labels : List ℕ) (axis from v : ℕ) (es fs gs :
     → HasEdgeOn g v axis → from ≤ v → IsSummedTo g labels axis from v es fs
     → lower ≡ label_of labels (v - stride g.axes axis) → higher ≡ label_of labels v
     → higher ≢ lower → higher ≢ 0 → lower ≢ 0 → (new : GraphEdge)
-    → new ≡ record { a = min lower higher; b = max lower higher;
-      contact = record { sum = affinity g (3 * v + axis); count = 1; tie = 3 * v + axis } }
+    → new ≡ record {
+      a = min lower higher;
+      b = max lower higher;
+      contact = record { sum = affinity g (3 * v + axis); count = 1; tie = 3 * v + axis };
+    }
     → Gains order_of with_contact new fs gs → SameContacts (fs ++ new ∷ []) gs → count_of gs ≡ count_of fs + new.contact.count
     → IsSummedTo g labels axis from (v + 1) es gs
 summed_edge g labels axis from v es fs gs lower higher has low so_far lower_at higher_at other some_higher some_lower new new_is gained same count =
@@ -116,8 +118,11 @@ summed_edge g labels axis from v es fs gs lower higher has low so_far lower_at h
     let low_is = lower_at ∙ sym (lower_is g labels v axis has.axis_is) in
     let high_is = higher_at ∙ sym (higher_is g labels v axis has.axis_is) in
     let is_alone : new ≡ alone g labels k = new_is
-    ∙ (λ i. record { a = min (low_is i) (high_is i); b = max (low_is i) (high_is i);
-      contact = record { sum = affinity g k; count = 1; tie = k } }) in
+    ∙ (λ i. record {
+      a = min (low_is i) (high_is i);
+      b = max (low_is i) (high_is i);
+      contact = record { sum = affinity g k; count = 1; tie = k };
+    }) in
     let contact = contact_is g labels v axis has ∙ (λ i. differ (sym lower_at i) (sym higher_at i))
     ∙ differ_of lower higher other some_higher some_lower in
     let in_order : new.a < new.b = subst (λ (e : GraphEdge). e.a < e.b) (sym new_is) (ordered_of lower higher other) in
@@ -153,6 +158,7 @@ summed_alike g labels axis from v es fs gs lower higher has low so_far lower_at 
     fails true true false h = refl
     fails true false false h = refl
     fails false a t h = refl
+
     no_contact_at : (x y e : ℕ) → is_contact_edge g labels (3 * v + axis) ≡ false
         → (joins g labels x y e && eqb e (3 * v + axis)) ≡ false
     no_contact_at x y e none = fails (is_contact_edge g labels e) (are (lower_label g labels e) (higher_label g labels e) x y) (eqb e (3 * v + axis))

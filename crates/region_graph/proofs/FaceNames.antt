@@ -1,11 +1,11 @@
 -- The names in the cell of a node with the artificial faces that they touch, gathered axis by axis.
-use Rattle.std.proofs.Common.{◌≡◌, ◌≢◌, ℕ, zero, suc, ◌+◌, ◌*◌, ◌-◌, ◌^◌, ◌<◌, ◌≤◌, Bool, true, false, cond, ◌&&◌, ◌||◌, eqb, ltb, List, [], ◌∷◌, get_or, refl, sym, ap, ◌∙◌, subst, arith, bit_or, add-one}
+use Rattle.std.proofs.Common.{◌≡◌, ◌≢◌, ℕ, zero, suc, ◌+◌, ◌*◌, ◌^◌, ◌<◌, Bool, true, false, cond, ◌&&◌, ◌||◌, eqb, ltb, List, [], ◌∷◌, get_or, refl, sym, ap, ◌∙◌, arith, bit_or, add-one}
 use Rattle.std.specs.List.{list_any, range_with_len}
 use Rattle.std.specs.Int.Bits.{or_shifted_r}
 use Rattle.std.proofs.Math.Nat.{pow-succ'}
-use Rattle.std.proofs.lemmas.Bool.{and_parts, and_from, false_from_ne_true, false≢true}
+use Rattle.std.proofs.lemmas.Bool.{and_parts, false≢true}
 use mathlib.Core.Path.{fun_ext}
-use Rattle.agglo_model.specs.Axes.{Axes, voxel_count, coordinate}
+use Rattle.agglo_model.specs.Axes.{voxel_count, coordinate}
 use Rattle.agglo_model.specs.Basins.{label_of}
 use Rattle.agglo_model.specs.Cutting.{Chunking, IsChunking, length_on, node_count, cell_low, cell_high, is_low_artificial, is_high_artificial, face_bits, low_corner, high_corner}
 use Rattle.agglo_model.specs.Freezing.{is_held, is_part, some_voxel, occurs_in, touches_low, touches_high, touched_faces}
@@ -13,7 +13,7 @@ use Rattle.agglo_model.specs.RegionGraph.{Region}
 use Rattle.agglo_model.proofs.Edges.{each_axis}
 use Rattle.agglo_model.proofs.Freezing.{held_voxel, some_voxel_from, some_voxel_is, part_held}
 use Rattle.region_graph.specs.Lists.{AreNamed, has_name, faces_in}
-use Rattle.region_graph.specs.Boxes.{GainsNames, GainsFaces, IsSomeBox, in_box, name_among, lowest_to, highest_from}
+use Rattle.region_graph.specs.Boxes.{GainsNames, GainsFaces, in_box, name_among, lowest_to, highest_from}
 use Rattle.region_graph.proofs.Layers.{cell_is_box, cell_held, lowest_in, highest_in}
 
 -- ---- faces as bits

@@ -1,14 +1,14 @@
 -- Edges inside the cell of a node: their higher ends lie in the cell without its lowest layer on their axis.
-use Rattle.std.proofs.Common.{◌≡◌, ℕ, ◌+◌, ◌*◌, ◌-◌, ◌/◌, ◌%◌, ◌<◌, ◌≤◌, Bool, true, false, cond, ◌&&◌, eqb, ltb, List, [], ◌∷◌, length, get_or, IsTrue, refl, sym, ap, ◌∙◌, subst, arith}
+use Rattle.std.proofs.Common.{◌≡◌, ℕ, ◌+◌, ◌*◌, ◌-◌, ◌%◌, ◌<◌, cond, ◌&&◌, eqb, ltb, List, length, get_or, IsTrue, refl, sym, ap, ◌∙◌, arith}
 use Rattle.std.proofs.lemmas.Bool.{and_parts, and_from, ltb-true, lt-ltb}
 use Rattle.agglo_model.specs.Axes.{Axes, IsWithinLimits, IsPlace, voxel_count, voxel_at, coordinate, stride, is_edge, lower_end, higher_end}
 use Rattle.agglo_model.specs.Cell.{IsInBox}
 use Rattle.agglo_model.specs.Cutting.{Chunking, IsChunking, node_count, low_corner, high_corner}
-use Rattle.agglo_model.specs.Freezing.{is_held, is_inside}
+use Rattle.agglo_model.specs.Freezing.{is_inside}
 use Rattle.agglo_model.proofs.Edges.{each_axis, edge_is, higher_end_below, lower_below_higher, lower-stride}
 use Rattle.agglo_model.proofs.Places.{place-voxel, voxel_at-place, coordinate-voxel_at_x, coordinate-voxel_at_y, coordinate-voxel_at_z}
 use Rattle.region_graph.specs.Boxes.{in_box, above_lowest}
-use Rattle.region_graph.proofs.VoxelTests.{same_tests, in_box-is, in_box-from, in_box-voxel}
+use Rattle.region_graph.proofs.VoxelTests.{same_tests, in_box-is, in_box-from}
 use Rattle.region_graph.proofs.Layers.{above_in, cell_held}
 
 -- v lies one step below w on an axis
@@ -73,19 +73,28 @@ lower_in : (a : Axes) (lo hi : List ℕ) (v w axis : ℕ) → axis < 3 → IsBel
     → get_or lo axis 0 < coordinate a w axis → IsInBox a lo hi v
 lower_in a lo hi v w axis three below inside = each_axis (λ k. IsBelowOn a v w k → get_or lo k 0 < coordinate a w k → IsInBox a lo hi v) axis three
     (λ b some. record {
-      from_x = omega (arith, b.on_x, inside.from_x); to_x = omega (arith, b.on_x, inside.to_x);
-      from_y = omega (arith, b.on_y, inside.from_y); to_y = omega (arith, b.on_y, inside.to_y);
-      from_z = omega (arith, b.on_z, inside.from_z); to_z = omega (arith, b.on_z, inside.to_z);
+      from_x = omega (arith, b.on_x, inside.from_x);
+      to_x = omega (arith, b.on_x, inside.to_x);
+      from_y = omega (arith, b.on_y, inside.from_y);
+      to_y = omega (arith, b.on_y, inside.to_y);
+      from_z = omega (arith, b.on_z, inside.from_z);
+      to_z = omega (arith, b.on_z, inside.to_z);
     })
     (λ b some. record {
-      from_x = omega (arith, b.on_x, inside.from_x); to_x = omega (arith, b.on_x, inside.to_x);
-      from_y = omega (arith, b.on_y, inside.from_y); to_y = omega (arith, b.on_y, inside.to_y);
-      from_z = omega (arith, b.on_z, inside.from_z); to_z = omega (arith, b.on_z, inside.to_z);
+      from_x = omega (arith, b.on_x, inside.from_x);
+      to_x = omega (arith, b.on_x, inside.to_x);
+      from_y = omega (arith, b.on_y, inside.from_y);
+      to_y = omega (arith, b.on_y, inside.to_y);
+      from_z = omega (arith, b.on_z, inside.from_z);
+      to_z = omega (arith, b.on_z, inside.to_z);
     })
     (λ b some. record {
-      from_x = omega (arith, b.on_x, inside.from_x); to_x = omega (arith, b.on_x, inside.to_x);
-      from_y = omega (arith, b.on_y, inside.from_y); to_y = omega (arith, b.on_y, inside.to_y);
-      from_z = omega (arith, b.on_z, inside.from_z); to_z = omega (arith, b.on_z, inside.to_z);
+      from_x = omega (arith, b.on_x, inside.from_x);
+      to_x = omega (arith, b.on_x, inside.to_x);
+      from_y = omega (arith, b.on_y, inside.from_y);
+      to_y = omega (arith, b.on_y, inside.to_y);
+      from_z = omega (arith, b.on_z, inside.from_z);
+      to_z = omega (arith, b.on_z, inside.to_z);
     }) below
 
 above_low : (a : Axes) (lo hi : List ℕ) (v w axis : ℕ) → axis < 3 → IsBelowOn a v w axis → IsInBox a lo hi v

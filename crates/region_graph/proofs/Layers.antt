@@ -1,13 +1,13 @@
 -- The cell of a node as a box, and its layers.
-use Rattle.std.proofs.Common.{◌≡◌, ℕ, zero, suc, ◌+◌, ◌*◌, ◌-◌, ◌^◌, ◌<◌, ◌≤◌, min, Bool, true, false, ◌&&◌, eqb, ltb, leb, List, [], ◌∷◌, length, get_or, set, refl, sym, ap, ◌∙◌, subst, arith}
+use Rattle.std.proofs.Common.{◌≡◌, ℕ, zero, suc, ◌+◌, ◌*◌, ◌-◌, ◌^◌, ◌<◌, ◌≤◌, min, Bool, ◌&&◌, eqb, ltb, leb, List, [], ◌∷◌, length, get_or, refl, sym, ap, ◌∙◌, subst, arith}
 use Rattle.std.proofs.lemmas.Bool.Decides.{nat_tests}
-use Rattle.agglo_model.specs.Axes.{Axes, IsWithinLimits, IsPlace, voxel_count, coordinate}
-use Rattle.agglo_model.specs.Cutting.{Chunking, IsChunking, length_on, node_count, level_of, cell_length, cell_place, cell_low, cell_high, cells_on, low_corner, high_corner}
+use Rattle.agglo_model.specs.Axes.{Axes, IsWithinLimits, voxel_count, coordinate}
+use Rattle.agglo_model.specs.Cutting.{Chunking, IsChunking, length_on, cells_at, last_level, node_count, level_of, cell_length, cell_place, cell_low, cell_high, cells_on, low_corner, high_corner}
 use Rattle.agglo_model.specs.Freezing.{is_held}
 use Rattle.agglo_model.proofs.CellBoxes.{cells_are_boxes}
 use Rattle.agglo_model.proofs.Edges.{each_axis}
 use Rattle.agglo_model.proofs.Freezing.{held_voxel}
-use Rattle.agglo_model.proofs.Levels.{cell_length_pos}
+use Rattle.agglo_model.proofs.Levels.{cell_length_pos, first_node_le}
 use Rattle.agglo_model.proofs.NodeCells.{node_place, cell_begins}
 use Rattle.region_graph.specs.Boxes.{IsBox, IsSomeBox, in_box, in_span, above_lowest, lowest_to, highest_from}
 use Rattle.region_graph.proofs.VoxelTests.{same_tests, in_box-is, in_box-from, in_box-voxel}
@@ -54,6 +54,10 @@ corners_box c a m lo hi h same node corners =
 pub corners_three : (c : Chunking) (m : ℕ) (lo hi : List ℕ) → AreCorners c m lo hi → (length lo ≡ 3) × (length hi ≡ 3)
 corners_three c m lo hi corners = (ap length corners.low, ap length corners.high)
 
+-- a leaf is a node
+pub leaf_is_node : (c : Chunking) (m : ℕ) → m < cells_at c 0 → m < node_count c
+leaf_is_node c m leaf = omega (arith, first_node_le c (suc zero) (suc (last_level c)) (omega arith))
+
 -- the voxels of the cell
 pub cell_held : (c : Chunking) → IsChunking c → (m v : ℕ) → m < node_count c
     → in_box c.axes (low_corner c m) (high_corner c m) v ≡ is_held c m v
@@ -73,8 +77,12 @@ some_box a lo hi box =
     let y = box.some 1 (omega arith) in
     let z = box.some 2 (omega arith) in
     record {
-      from_x = omega (arith, x); from_y = omega (arith, y); from_z = omega (arith, z);
-      most_x = box.most 0 (omega arith); most_y = box.most 1 (omega arith); most_z = box.most 2 (omega arith);
+      from_x = omega (arith, x);
+      from_y = omega (arith, y);
+      from_z = omega (arith, z);
+      most_x = box.most 0 (omega arith);
+      most_y = box.most 1 (omega arith);
+      most_z = box.most 2 (omega arith);
     }
 
 -- a corner of such a box is far below the end of its type
@@ -199,11 +207,26 @@ above_box a lo hi axis below len box =
     step x y z = each_axis (λ k. IsBox a (x ∷ y ∷ z ∷ []) hi → get_or (x ∷ y ∷ z ∷ []) k 0 < get_or hi k 0
         → IsBox a (above_lowest (x ∷ y ∷ z ∷ []) k) hi) axis below
         (λ box some. record {
-          from_x = omega (arith, some); from_y = box.from_y; from_z = box.from_z; most_x = box.most_x; most_y = box.most_y; most_z = box.most_z;
+          from_x = omega (arith, some);
+          from_y = box.from_y;
+          from_z = box.from_z;
+          most_x = box.most_x;
+          most_y = box.most_y;
+          most_z = box.most_z;
         })
         (λ box some. record {
-          from_x = box.from_x; from_y = omega (arith, some); from_z = box.from_z; most_x = box.most_x; most_y = box.most_y; most_z = box.most_z;
+          from_x = box.from_x;
+          from_y = omega (arith, some);
+          from_z = box.from_z;
+          most_x = box.most_x;
+          most_y = box.most_y;
+          most_z = box.most_z;
         })
         (λ box some. record {
-          from_x = box.from_x; from_y = box.from_y; from_z = omega (arith, some); most_x = box.most_x; most_y = box.most_y; most_z = box.most_z;
+          from_x = box.from_x;
+          from_y = box.from_y;
+          from_z = omega (arith, some);
+          most_x = box.most_x;
+          most_y = box.most_y;
+          most_z = box.most_z;
         })

@@ -12,3 +12,4 @@ pub mod Layers
 pub mod InsideEdges
 pub mod AxisContacts
 pub mod FaceNames
+pub mod CellGraphs

@@ -1,7 +1,7 @@
 -- Lists of regions that gain the names of the voxels that pass a test: none, one, and two tests one after the other.
-use Rattle.std.proofs.Common.{◌≡◌, ◌≢◌, ◌⊎◌, inl, inr, ℕ, zero, suc, ◌+◌, ◌<◌, ◌≤◌, Bool, true, false, cond, ◌&&◌, ◌||◌, eqb, ltb, leb, List, [], ◌∷◌, ◌++◌, map, filter, fold, get_or, refl, sym, ap, ◌∙◌, subst, zero-add, arith, bit_or}
+use Rattle.std.proofs.Common.{◌≡◌, ◌≢◌, ◌⊎◌, inl, inr, ℕ, ◌+◌, ◌<◌, ◌≤◌, Bool, true, false, cond, ◌&&◌, ◌||◌, eqb, ltb, leb, List, [], ◌∷◌, ◌++◌, map, filter, fold, refl, sym, ap, ◌∙◌, subst, zero-add, arith, bit_or}
 use Rattle.std.specs.List.{list_any, range_with_len}
-use Rattle.std.proofs.lemmas.Bool.{and_parts, and_from, eqb-true, eq-eqb, ne_eqb, or_cases, or_left, or_right, false_from_ne_true, false≢true}
+use Rattle.std.proofs.lemmas.Bool.{and_parts, and_from, eqb-true, eq-eqb, false_from_ne_true, false≢true}
 use Rattle.std.proofs.lemmas.Bool.Decides.{nat_tests}
 use Rattle.std.proofs.lemmas.List.Elements.{All-push, filter-append}
 use Rattle.std.proofs.lemmas.List.{map-append, append-nil}
@@ -12,7 +12,7 @@ use mathlib.Core.Path.{fun_ext}
 use Rattle.agglo_model.specs.Axes.{Axes, voxel_count}
 use Rattle.agglo_model.specs.Basins.{label_of}
 use Rattle.agglo_model.specs.RegionGraph.{Region}
-use Rattle.region_graph.specs.Lists.{AreNamed, has_name, faces_in}
+use Rattle.region_graph.specs.Lists.{has_name, faces_in}
 use Rattle.region_graph.specs.Boxes.{GainsNames, in_run, name_among}
 use Rattle.region_graph.proofs.RegionLists.{has_bit, has_bit-or, same_by_bits}
 use Rattle.region_graph.proofs.VoxelTests.{same_tests}

@@ -1,5 +1,5 @@
 -- The total of one edge, and of none.
-use Rattle.std.proofs.Common.{◌≡◌, ◌⊎◌, inl, inr, ℕ, zero, suc, ◌+◌, ◌<◌, ◌≤◌, Bool, true, false, cond, ◌&&◌, eqb, List, [], ◌∷◌, sum_by, count_by, refl, sym, ap, ◌∙◌, subst, arith}
+use Rattle.std.proofs.Common.{◌≡◌, ◌⊎◌, inl, inr, ℕ, zero, suc, ◌+◌, ◌<◌, ◌≤◌, Bool, true, false, cond, ◌&&◌, eqb, sum_by, refl, sym, ap, ◌∙◌, arith}
 use Rattle.std.specs.List.{range_with_len}
 use Rattle.std.proofs.lemmas.Bool.{cases_lt, eqb-true, false≢true}
 use Rattle.std.proofs.lemmas.Bool.Decides.{nat_tests}
@@ -7,8 +7,7 @@ use Rattle.std.proofs.lemmas.List.Sums.{sum_by-cons}
 use mathlib.Core.Path.{fun_ext}
 use Rattle.agglo_model.specs.Axes.{edge_count}
 use Rattle.agglo_model.specs.Grid.{Grid, affinity}
-use Rattle.agglo_model.specs.PairOrder.{Contact}
-use Rattle.agglo_model.specs.Contacts.{total, edge_numbers}
+use Rattle.agglo_model.specs.Contacts.{total}
 use Rattle.agglo_model.specs.RegionGraph.{no_contact}
 use Rattle.agglo_model.proofs.GraphContacts.{same_contact}
 use Rattle.agglo_model.proofs.Totals.{total-some, total-tie, total-none}
@@ -34,6 +33,7 @@ sum_before f k (suc n) a before =
   where
     other : (a k : ℕ) → k < a → eqb a k ≡ false
     other a k before = grind (arith, nat_tests)
+
     step : (b : Bool) → b ≡ false → sum_by (λ e. cond (eqb e k) (f e) 0) (range_with_len (a + 1) n) ≡ 0
         → cond b (f a) 0 + sum_by (λ e. cond (eqb e k) (f e) 0) (range_with_len (a + 1) n) ≡ 0
     step true fail rest = absurd (false≢true (sym fail))

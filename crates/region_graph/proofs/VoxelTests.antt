@@ -1,8 +1,7 @@
 -- Boxes of voxels gone over row by row: which voxels have been seen, and which are in the next row.
-use Rattle.std.proofs.Common.{◌≡◌, ℕ, ◌+◌, ◌*◌, ◌-◌, ◌/◌, ◌%◌, ◌<◌, ◌≤◌, Bool, true, false, ◌&&◌, ◌||◌, eqb, ltb, leb, List, get_or, refl, sym, ap, ◌∙◌, subst, arith}
-use Rattle.std.proofs.lemmas.Bool.{false≢true}
+use Rattle.std.proofs.Common.{◌≡◌, ℕ, ◌+◌, ◌-◌, ◌<◌, ◌≤◌, Bool, true, false, ◌&&◌, ◌||◌, eqb, ltb, leb, List, get_or, refl, sym, ap, ◌∙◌, subst, arith}
 use Rattle.std.proofs.lemmas.Bool.Decides.{nat_tests}
-use Rattle.agglo_model.specs.Axes.{Axes, IsWithinLimits, IsPlace, voxel_count, voxel_at, coordinate}
+use Rattle.agglo_model.specs.Axes.{Axes, IsPlace, voxel_count, voxel_at, coordinate}
 use Rattle.agglo_model.specs.Cell.{IsInBox}
 use Rattle.agglo_model.proofs.Places.{voxel_at-lt, voxel_at-place, coordinate-voxel_at_x, coordinate-voxel_at_y, coordinate-voxel_at_z}
 use Rattle.region_graph.specs.Boxes.{IsBox, in_box, in_run, in_span}
@@ -107,11 +106,18 @@ row_place a lo hi y z v box y_low y_high z_low z_high pass =
     let on_x : coordinate a v 0 ≡ x = ap (λ w. coordinate a w 0) (sym is) ∙ coordinate-voxel_at_x a x y z place in
     let on_y : coordinate a v 1 ≡ y = ap (λ w. coordinate a w 1) (sym is) ∙ coordinate-voxel_at_y a x y z place in
     let on_z : coordinate a v 2 ≡ z = ap (λ w. coordinate a w 2) (sym is) ∙ coordinate-voxel_at_z a x y z place in
-    let below : v < voxel_count a = subst (λ w. w < voxel_count a) is (voxel_at-lt a x y z place) in
-    (in_box-from a lo hi v below (record {
-      from_x = omega (arith, on_x, run.0); to_x = omega (arith, on_x, run.1);
-      from_y = omega (arith, on_y); to_y = omega (arith, on_y); from_z = omega (arith, on_z); to_z = omega (arith, on_z);
-    }), on_y, on_z)
+    let below : v < voxel_count a = subst (λ w. w < voxel_count a) is (voxel_at-lt a x y z place) in (
+      in_box-from a lo hi v below (record {
+        from_x = omega (arith, on_x, run.0);
+        to_x = omega (arith, on_x, run.1);
+        from_y = omega (arith, on_y);
+        to_y = omega (arith, on_y);
+        from_z = omega (arith, on_z);
+        to_z = omega (arith, on_z);
+      }),
+      on_y,
+      on_z,
+    )
   where
     run_parts : (from to w : ℕ) → (leb from w && ltb w to) ≡ true → (from ≤ w) × (w < to)
     run_parts from to w pass = grind (arith, nat_tests)
@@ -141,6 +147,7 @@ row_is a lo hi y z v box y_low y_high z_low z_high = same_tests (in_row a lo hi 
   where
     whole : (b : Bool) (r z q y : ℕ) → b ≡ true → r ≡ z → q ≡ y → (b && (eqb r z && eqb q y)) ≡ true
     whole b r z q y inside on_z on_y = grind (arith, nat_tests)
+
     parts : (b : Bool) (r z q y : ℕ) → (b && (eqb r z && eqb q y)) ≡ true → (b ≡ true) × (r ≡ z) × (q ≡ y)
     parts b r z q y pass = grind (arith, nat_tests)
 

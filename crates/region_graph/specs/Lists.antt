@@ -1,5 +1,5 @@
 -- Lists of regions and of edges while a graph is gathered: in any order, and with names that come again.
-use Rattle.std.specs.Prelude.{◌≡◌, ◌≢◌, ℕ, ◌+◌, ◌*◌, ◌^◌, ◌<◌, ◌==◌, ◌⊎◌, Bool, ◌||◌, if◌then◌else◌, List, [], ◌∷◌, ◌++◌, fold, map, filter, All, sum_by, bit_or}
+use Rattle.std.specs.Prelude.{◌≡◌, ◌≢◌, ℕ, ◌+◌, ◌*◌, ◌^◌, ◌<◌, ◌==◌, ◌⊎◌, Bool, List, [], ◌∷◌, ◌++◌, fold, map, filter, All, sum_by, bit_or}
 use Rattle.std.specs.List.{list_any}
 use Rattle.agglo_model.specs.PairOrder.{added}
 use Rattle.agglo_model.specs.RegionGraph.{Region, GraphEdge, contact_in}

@@ -39,13 +39,7 @@ pub(crate) fn add_contacts(
 }
 
 /// The same for the voxels from `from` up to, but not including, `to`.
-fn add_row(
-    edges: &mut Vec<Edge>,
-    site: &Site,
-    axis: u32,
-    from: u32,
-    to: u32,
-) -> Result<(), Memory>
+fn add_row(edges: &mut Vec<Edge>, site: &Site, axis: u32, from: u32, to: u32) -> Result<(), Memory>
     requires axis { axis < 3 }
     requires ascending { from ≤ to }
     requires voxels { to ≤ voxel_count site.now.grid.axes }

@@ -6,6 +6,7 @@ ghost use Rattle.agglo_model.specs.PairOrder.{most_edges};
 ghost use Rattle.agglo_model.specs.RegionGraph.{IsCellGraph, between_inside, contact_in};
 ghost use Rattle.region_graph.specs.Boxes.{GainsFaces, GainsNames, IsBox, IsSomeBox, above_lowest, highest_from, in_box, lowest_to};
 ghost use Rattle.region_graph.specs.Lists.{AreNamed, AreOrdered, count_of, faces_in, has_name};
+ghost use Rattle.region_graph.specs.SiteView.{IsSite};
 
 use crate::contacts::add_contacts;
 use crate::graph::{Edge, Graph, Region};
@@ -33,6 +34,7 @@ fn contacts_inside(alloc: Global, site: &Site, m: u32) -> Result<Vec<Edge>, Memo
         ≡ between_inside site.now.grid site.now.cutting m site.now.labels x y) }
     ensures ordered { IfOk result (λ edges. AreOrdered edges.items) }
     ensures count { IfOk result (λ edges. count_of edges.items ≤ most_edges) }
+    ensures site { IsSite site.now }
 {
     let cell = site.cutting().cell(m);
     let mut edges = Vec::new(alloc);
@@ -61,12 +63,7 @@ fn names_inside(alloc: Global, site: &Site, m: u32) -> Result<Vec<Region>, Memor
 }
 
 /// Adds the names at the artificial faces of a cell on an axis.
-fn add_faces(
-    regions: &mut Vec<Region>,
-    site: &Site,
-    cell: &Cell,
-    axis: u32,
-) -> Result<(), Memory>
+fn add_faces(regions: &mut Vec<Region>, site: &Site, cell: &Cell, axis: u32) -> Result<(), Memory>
     requires axis { axis < 3 }
     requires cell_fits { IsSomeBox site.now.grid.axes cell.now.lo cell.now.hi }
     ensures { IfOk result (λ _. GainsFaces site.now.grid.axes site.now.labels cell.now.lo cell.now.hi axis

@@ -70,8 +70,14 @@ fn the_graphs_of_a_row(rt: HostRuntime) -> Result<(), Fail> {
     ];
     let vol = sheet(&rt, 8, 1, &bytes)?;
     let first = graph_of_leaf(&rt, &vol, [6, 1, 1], 0)?;
-    assert_eq!(rt; first.regions.as_slice(), [(1, 0), (3, 0), (5, 2)].as_slice());
-    assert_eq!(rt; first.edges.as_slice(), [[1, 3, 100, 1, 6], [3, 5, 90, 1, 12]].as_slice());
+    assert_eq!(rt;
+        first.regions.as_slice(),
+        [(1, 0), (3, 0), (5, 2)].as_slice()
+    );
+    assert_eq!(rt;
+        first.edges.as_slice(),
+        [[1, 3, 100, 1, 6], [3, 5, 90, 1, 12]].as_slice()
+    );
     let last = graph_of_leaf(&rt, &vol, [6, 1, 1], 1)?;
     assert_eq!(rt; last.regions.as_slice(), [(7, 1)].as_slice());
     assert!(rt; last.edges.is_empty());

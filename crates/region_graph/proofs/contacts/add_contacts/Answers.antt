@@ -1,8 +1,8 @@
-use Rattle.std.proofs.Common.{◌≡◌, ℕ, ◌+◌, ◌-◌, ◌<◌, ◌≤◌, get_or, sym, ap, ◌∙◌, subst, arith}
-use Rattle.agglo_model.specs.Axes.{voxel_at, voxel_count, coordinate}
-use Rattle.region_graph.specs.Boxes.{GainsContacts, IsBox, ends_among, in_run}
+use Rattle.std.proofs.Common.{◌≡◌, ◌+◌, ◌-◌, ◌<◌, ◌≤◌, get_or, ap, ◌∙◌, subst, arith}
+use Rattle.agglo_model.specs.Axes.{voxel_at}
+use Rattle.region_graph.specs.Boxes.{GainsContacts, ends_among, in_run}
 use Rattle.region_graph.specs.Lists.{count_of}
-use Rattle.region_graph.proofs.BoxRows.{AreRowsSummed, IsRow, row_fits, row_inner, rows-none, rows-first, rows-more, rows-layer, rows-gained, rows-count}
+use Rattle.region_graph.proofs.BoxRows.{AreRowsSummed, IsRow, row_inner, rows-none, rows-first, rows-more, rows-layer, rows-gained, rows-count}
 use Rattle.region_graph.proofs.contacts.add_contacts.Goals as goal
 
 pub loop-z-init : goal.loop-z-init
@@ -23,7 +23,10 @@ add_row-requires-clause-inner c v from to =
     let y = c.loop-y.y in
     let z = c.loop-z.z in
     let row : IsRow cell.lo cell.hi y z = record {
-      y_low = c.loop-y.auto.y; y_high = c.loop-y-test.true; z_low = c.loop-z.auto.z; z_high = c.loop-z-test.true;
+      y_low = c.loop-y.auto.y;
+      y_high = c.loop-y-test.true;
+      z_low = c.loop-z.auto.z;
+      z_high = c.loop-z-test.true;
     } in
     let first : c.voxel-row.result ≡ voxel_at a 0 y z =
     c.voxel-row.ensures.value ∙ ap (λ b. voxel_at b 0 y z) (c.dims-dims.ensures.value ∙ ap (λ g. g.axes) c.vol.ensures.value) in
@@ -38,7 +41,10 @@ loop-y-preserved c =
     let y = c.loop-y.y in
     let z = c.loop-z.z in
     let row : IsRow cell.lo cell.hi y z = record {
-      y_low = c.loop-y.auto.y; y_high = c.loop-y-test.true; z_low = c.loop-z.auto.z; z_high = c.loop-z-test.true;
+      y_low = c.loop-y.auto.y;
+      y_high = c.loop-y-test.true;
+      z_low = c.loop-z.auto.z;
+      z_high = c.loop-z-test.true;
     } in
     let first : c.voxel-row.result ≡ voxel_at g.axes 0 y z =
     c.voxel-row.ensures.value ∙ ap (λ b. voxel_at b 0 y z) (c.dims-dims.ensures.value ∙ ap (λ h. h.axes) c.vol.ensures.value) in

@@ -1,8 +1,7 @@
-use Rattle.std.proofs.Common.{◌≡◌, ◌⊎◌, inl, inr, ◌+◌, ◌*◌, ◌-◌, ◌<◌, ◌≤◌, [], ◌∷◌, ◌++◌, min, max, get_or, sym, ap, ◌∙◌, subst, arith}
-use Rattle.agglo_model.specs.Axes.{voxel_count, coordinate, stride}
+use Rattle.std.proofs.Common.{◌≡◌, inl, inr, ◌+◌, ◌*◌, ◌-◌, ◌<◌, [], ◌∷◌, ◌++◌, min, max, get_or, sym, ap, ◌∙◌, subst, arith}
+use Rattle.agglo_model.specs.Axes.{coordinate, stride}
 use Rattle.agglo_model.specs.Basins.{label_of}
 use Rattle.agglo_model.specs.Grid.{affinity}
-use Rattle.agglo_model.specs.RegionGraph.{GraphEdge}
 use Rattle.agglo_model.proofs.Places.{stride_le}
 use Rattle.region_graph.specs.Lists.{Gains, SameContacts, count_of, order_of, with_contact}
 use Rattle.region_graph.proofs.ContactRows.{HasEdgeOn, summed_none, summed_edge, summed_alike}

@@ -1,7 +1,7 @@
-use Rattle.std.proofs.Common.{◌≡◌, ℕ, ◌+◌, ◌*◌, ◌-◌, ◌^◌, ◌<◌, ◌≤◌, ◌&&◌, ltb, get_or, sym, ap, ◌∙◌, subst, arith}
+use Rattle.std.proofs.Common.{◌*◌, ◌^◌, ◌<◌, ◌&&◌, ltb, get_or, ap, ◌∙◌, arith}
 use Rattle.agglo_model.specs.Cutting.{length_on}
 use Rattle.agglo_model.proofs.Edges.{each_axis}
-use Rattle.region_graph.specs.Boxes.{GainsFaces, GainsNames, in_box, lowest_to, highest_from}
+use Rattle.region_graph.specs.Boxes.{in_box, lowest_to, highest_from}
 use Rattle.region_graph.proofs.NameGains.{names-equal}
 use Rattle.region_graph.proofs.leaf.add_faces.Goals as goal
 

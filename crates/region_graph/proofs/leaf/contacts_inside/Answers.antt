@@ -1,9 +1,7 @@
-use Rattle.std.proofs.Common.{◌≡◌, ℕ, ◌+◌, ◌<◌, ◌≤◌, [], get_or, sym, ap, ◌∙◌, subst, arith}
-use Rattle.agglo_model.specs.Axes.{edge_count}
-use Rattle.agglo_model.specs.Cutting.{low_corner, high_corner}
-use Rattle.agglo_model.specs.RegionGraph.{contact_in, between_inside}
-use Rattle.region_graph.specs.Boxes.{GainsContacts, IsBox, IsSomeBox, ends_among, in_box, above_lowest}
-use Rattle.region_graph.proofs.Layers.{AreCorners, corners_are, corners_box, corners_three, above_box, low_fits}
+use Rattle.std.proofs.Common.{◌≡◌, sym, subst, arith}
+use Rattle.agglo_model.specs.Cutting.{high_corner}
+use Rattle.region_graph.specs.Boxes.{GainsContacts, IsBox, ends_among, in_box}
+use Rattle.region_graph.proofs.Layers.{corners_are, corners_box, corners_three, above_box, low_fits}
 use Rattle.region_graph.proofs.AxisContacts.{AreAxesSummed, axes-none, axes-more, axes-contacts}
 use Rattle.region_graph.proofs.leaf.contacts_inside.Goals as goal
 

@@ -1,9 +1,8 @@
-use Rattle.std.proofs.Common.{◌≡◌, ℕ, ◌+◌, ◌<◌, ◌≤◌, [], get_or, refl, sym, ap, ◌∙◌, subst, arith}
-use Rattle.agglo_model.specs.Axes.{Axes}
+use Rattle.std.proofs.Common.{◌≡◌, refl, sym, ◌∙◌, subst, arith}
 use Rattle.agglo_model.specs.Cutting.{low_corner, high_corner}
 use Rattle.region_graph.specs.Boxes.{GainsNames, GainsFaces, IsBox, in_box}
 use Rattle.region_graph.proofs.NameGains.{names-equal}
-use Rattle.region_graph.proofs.Layers.{AreCorners, corners_are, corners_box, some_box}
+use Rattle.region_graph.proofs.Layers.{corners_are, corners_box, some_box}
 use Rattle.region_graph.proofs.FaceNames.{AreFacesNamed, faces-none, faces-more, faces-all}
 use Rattle.region_graph.proofs.leaf.names_inside.Goals as goal
 

@@ -1,4 +1,4 @@
-use Rattle.std.proofs.Common.{◌≡◌, ℕ, ◌+◌, ◌<◌, ◌≤◌, get_or, sym, ap, ◌∙◌, subst, arith}
+use Rattle.std.proofs.Common.{◌≡◌, ◌+◌, get_or, ap, ◌∙◌, subst, arith}
 use Rattle.agglo_model.specs.Axes.{voxel_at}
 use Rattle.region_graph.specs.Boxes.{GainsNames, in_run}
 use Rattle.region_graph.proofs.BoxRows.{AreRowsNamed, IsRow, named-none, named-first, named-more, named-layer, named-gained}
@@ -23,7 +23,10 @@ loop-y-preserved c =
     let y = c.loop-y.y in
     let z = c.loop-z.z in
     let row : IsRow cell.lo cell.hi y z = record {
-      y_low = c.loop-y.auto.y; y_high = c.loop-y-test.true; z_low = c.loop-z.auto.z; z_high = c.loop-z-test.true;
+      y_low = c.loop-y.auto.y;
+      y_high = c.loop-y-test.true;
+      z_low = c.loop-z.auto.z;
+      z_high = c.loop-z-test.true;
     } in
     let first : c.voxel-row.result ≡ voxel_at a 0 y z =
     c.voxel-row.ensures.value ∙ ap (λ b. voxel_at b 0 y z) c.dims-dims.ensures.value in

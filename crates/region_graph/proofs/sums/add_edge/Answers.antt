@@ -4,7 +4,7 @@ use Rattle.std.proofs.lemmas.List.{set-get_or, get_or_read}
 use Rattle.agglo_model.specs.PairOrder.{added}
 use Rattle.agglo_model.specs.RegionGraph.{GraphEdge, contact_in}
 use Rattle.region_graph.specs.contracts.graph.Edge.{the_view}
-use Rattle.region_graph.specs.Lists.{TakesIn, Gains, order_of, with_contact}
+use Rattle.region_graph.specs.Lists.{TakesIn, order_of, with_contact}
 use Rattle.region_graph.proofs.Gaining.{takes_in, appends}
 use Rattle.region_graph.proofs.EdgeSums.{taken-contacts, gained_count}
 use Rattle.region_graph.proofs.sums.add_edge.Goals as goal
