@@ -6,8 +6,8 @@
 #![tactic(auto)]
 
 mod exits;
-mod resolve;
+mod resolving;
 #[cfg(test)]
 mod tests;
 
-pub use resolve::resolve;
+pub use resolving::resolve;

@@ -1,3 +1,7 @@
+ghost use Rattle.std.specs.Prelude.{◌≡◌, IfOk};
+ghost use Rattle.agglo_model.specs.Basins.{AreBasins};
+ghost use Rattle.face_pointers.specs.Pieces.{AreClimbs};
+
 use crate::exits::Exits;
 use agglo_model::Memory;
 use chunk_tree::Cutting;
@@ -13,9 +17,14 @@ pub fn resolve(
     low: u8,
     cutting: &Cutting,
     pieces: Vec<Ends>,
-) -> Result<Labels, Memory> {
+) -> Result<Labels, Memory>
+    requires axes { cutting.now.axes ≡ vol.now.axes }
+    requires climbs { AreClimbs vol.now low cutting.now pieces.items }
+    ensures axes { IfOk result (λ labels. labels.axes ≡ vol.now.axes) }
+    ensures basins { IfOk result (λ labels. AreBasins vol.now low labels.labels) }
+{
     let mut labels = Vec::from_elem(alloc, 0, vol.dims().voxels() as usize)?;
-    let exits = Exits::of(vol, cutting, pieces);
+    let exits = Exits::of(vol, low, cutting, pieces);
     exits.settle_all(&mut labels);
     Ok(Labels::of(vol.dims(), labels))
 }

@@ -4,8 +4,8 @@
 //! It stands on `face_pointers`, `steepest_ascent` and `chunk_tree`. The commands stand on it.
 #![tactic(auto)]
 
-mod basins;
+mod basin_run;
 #[cfg(test)]
 mod tests;
 
-pub use basins::basins;
+pub use basin_run::basins;
