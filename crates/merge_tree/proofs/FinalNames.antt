@@ -10,8 +10,11 @@ use Rattle.std.proofs.lemmas.List.FromFn.{get_or-range_with_len, length-range_wi
 use Rattle.std.proofs.lemmas.Simd.{map-map}
 use Rattle.std.proofs.lemmas.Grind.{get_or_default_zero}
 use mathlib.Core.Path.{fun_ext}
+use Rattle.agglo_model.specs.Axes.{Axes, IsWithinLimits}
+use Rattle.agglo_model.specs.PairOrder.{Threshold}
 use Rattle.agglo_model.specs.Greedy.{Merge, after_merges}
-use Rattle.merge_tree.specs.Renaming.{NamesBelow, HoldsFinalNames, renamed_by, final_name, final_label}
+use Rattle.agglo_model.specs.MergeTree.{AreLawful}
+use Rattle.merge_tree.specs.Renaming.{HasSmallNames, NamesBelow, HoldsFinalNames, renamed_by, final_name, final_label}
 
 -- the labels after the merges, label by label
 after_merges_is : (labels : List ℕ) (merges : List Merge) → after_merges labels merges ≡ map (final_name merges) labels
@@ -148,3 +151,12 @@ pub names_more : (merges : List Merge) (i n m : ℕ) (d : Merge) → i < length 
 names_more merges i n m d there more here before =
     All-more (NamesBelow m) merges i d there
     (λ k e below. record { survivor = omega (arith, (before k e below).survivor); absorbed = omega (arith, (before k e below).absorbed) }) here
+
+-- the names of lawful merges can be labels
+pub lawful_names : (axes : Axes) (t : Threshold) (merges : List Merge) → IsWithinLimits axes → AreLawful axes t merges → All HasSmallNames merges
+lawful_names axes t merges limits lawful = λ k d below.
+    let names = lawful.names k d below in
+    record {
+      survivor = omega (arith, names.ordered, names.in_range, limits.most_voxels);
+      absorbed = omega (arith, names.in_range, limits.most_voxels);
+    }

@@ -1,7 +1,7 @@
 mod Blocks
 mod Reordered
 mod Ranks
-mod FinalNames
+pub mod FinalNames
 mod Records
 mod Judged
 mod InputStates

@@ -1,4 +1,4 @@
-ghost use Rattle.std.specs.Prelude.{◌≡◌, IfOk, All, AllPairs, IsPermutation};
+ghost use Rattle.std.specs.Prelude.{◌≡◌, IfOk, IsOk, All, AllPairs, IsPermutation};
 ghost use Rattle.std.specs.Ordering.{is_lt};
 ghost use Rattle.agglo_model.specs.MergeLaws.{AreFalling};
 ghost use Rattle.merge_tree.specs.Order.{goes_first, HasEdges, DifferInRank, ComesFirst};
@@ -10,11 +10,13 @@ use std::alloc::Global;
 use std::cmp::Ordering;
 
 /// The merges in pair order: the one with the greatest mean first, and of equal means the one with
-/// the smallest tie. They are sorted where they stand, so no memory is taken.
+/// the smallest tie. They are sorted where they stand, so no memory is taken, and it does not fail.
 pub fn in_order(_alloc: Global, merges: Vec<Merge>) -> Result<Vec<Merge>, Memory>
     requires { AllPairs DifferInRank merges.items }
-    ensures { IfOk result (λ sorted. IsPermutation merges.items sorted.items
-        × AreFalling sorted.items × AllPairs ComesFirst sorted.items) }
+    ensures always { IsOk result }
+    ensures same_merges { IfOk result (λ sorted. IsPermutation merges.items sorted.items) }
+    ensures falling { IfOk result (λ sorted. AreFalling sorted.items) }
+    ensures each_first { IfOk result (λ sorted. AllPairs ComesFirst sorted.items) }
 {
     have_edges(&merges);
     let mut sorted = merges;

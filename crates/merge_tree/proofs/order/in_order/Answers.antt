@@ -5,9 +5,14 @@ use Rattle.merge_tree.specs.Order.{HasEdges}
 use Rattle.merge_tree.proofs.Ranks.{first_order, falling, all_falling}
 use Rattle.merge_tree.proofs.order.in_order.Goals as goal
 
-pub returns : goal.returns
-returns c =
+pub returns-clause-falling : goal.returns-clause-falling
+returns-clause-falling c =
     let some : All HasEdges c.args.merges.items = subst (All HasEdges) c.deref.ensures.value c.have_edges.ensures in
-    let pairs = all_falling _ _ some c.requires c.sort_unstable_by.ensures.permutation
-    (c.sort_unstable_by.ensures.sorted _ first_order (answers_always _ _ _ (λ f a r f' k. search rules))) in
-    (c.sort_unstable_by.ensures.permutation, falling _ pairs, pairs)
+    falling _ (all_falling _ _ some c.requires c.sort_unstable_by.ensures.permutation
+    (c.sort_unstable_by.ensures.sorted _ first_order (answers_always _ _ _ (λ f a r f' k. search rules))))
+
+pub returns-clause-each_first : goal.returns-clause-each_first
+returns-clause-each_first c =
+    let some : All HasEdges c.args.merges.items = subst (All HasEdges) c.deref.ensures.value c.have_edges.ensures in
+    all_falling _ _ some c.requires c.sort_unstable_by.ensures.permutation
+    (c.sort_unstable_by.ensures.sorted _ first_order (answers_always _ _ _ (λ f a r f' k. search rules)))
