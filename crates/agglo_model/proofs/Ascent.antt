@@ -278,16 +278,12 @@ standing_at : (top : ℕ) (g : Grid) (low v e : ℕ) → IsBest g low v e → st
 unfolding standing
 standing_at top g low v e b = ap (λ o. unwrap_or (option_map (λ f. height top g f + 1) o) 0) (best_of_some g low v e b)
 
-pub standing_before : (top : ℕ) (g : Grid) (low v w e f : ℕ) → ((k : ℕ) → affinity g k ≤ top)
-    → IsBest g low v e → IsBest g low w f → EdgeBefore g f e → standing top g low w < standing top g low v
-standing_before top g low v w e f most b c before =
-    let falls = height_falls top g e f (most f) (edge_is g.axes f c.strong.edge).numbered before in
-    let here = standing_at top g low v e b in
-    let there = standing_at top g low w f c in
-    omega arith
-
 pub standing_falls : (top : ℕ) (g : Grid) (low v w e f : ℕ) → ((k : ℕ) → affinity g k ≤ top)
     → IsBest g low v e → AreEnds g.axes e v w → IsBest g low w f → f ≢ e
     → standing top g low w < standing top g low v
 standing_falls top g low v w e f most b ends c ne =
-    standing_before top g low v w e f most b c (next_before g low v w e f b ends c ne)
+    let falls = height_falls top g e f (most f) (edge_is g.axes f c.strong.edge).numbered
+    (next_before g low v w e f b ends c ne) in
+    let here = standing_at top g low v e b in
+    let there = standing_at top g low w f c in
+    omega arith

@@ -42,7 +42,6 @@ pub mod ConnectedMerges
 pub mod Freezing
 pub mod ConnectedWorks
 pub mod CellBoxes
-pub mod LeafBoxes
 pub mod CloseVoxels
 pub mod Crossings
 pub mod FreeNames

@@ -6,7 +6,7 @@ use Rattle.agglo_model.specs.Boxes.{IsBoxOf, box_grid, box_index}
 use Rattle.agglo_model.specs.Cell.{IsInBox}
 use Rattle.agglo_model.specs.Cutting.{cells_at, leaf_of, low_corner, high_corner}
 use Rattle.agglo_model.proofs.BoxPlaces.{IsBoxPlace, box_index-lt, box_index-voxel, box_voxel-index, box_voxel-lt, box_voxel-place, box_voxel_in, place_of_box}
-use Rattle.agglo_model.proofs.LeafBoxes.{cell_is_box, leaf_holds, leaf_is_node, leaf_of-lt}
+use Rattle.face_pointers.proofs.LeafBoxes.{cell_is_box, leaf_holds, leaf_is_node, leaf_of-lt}
 use Rattle.agglo_model.specs.Basins.{label_of}
 use Rattle.steepest_ascent.specs.Progress.{IsLabelOf}
 use Rattle.steepest_ascent.specs.CellEnds.{CellEnds, end_at}

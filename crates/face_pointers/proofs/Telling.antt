@@ -4,7 +4,7 @@ use Rattle.agglo_model.specs.Axes.{voxel_count}
 use Rattle.agglo_model.specs.EdgeOrder.{EdgeBefore}
 use Rattle.agglo_model.specs.Grid.{Grid, IsWhole, affinity}
 use Rattle.agglo_model.proofs.BestEdge.{before_trans, best_unique}
-use Rattle.agglo_model.proofs.Ascent.{next_before, standing, standing_before}
+use Rattle.agglo_model.proofs.Ascent.{next_before, standing}
 use Rattle.seg_base.specs.declared.cell.Cell.{Cell}
 use Rattle.steepest_ascent.specs.CellEnds.{IsEndOf, Stays, Ends, Leaves, Climbs}
 use Rattle.steepest_ascent.specs.Progress.{IsLabelOf}
@@ -12,6 +12,7 @@ use Rattle.steepest_ascent.specs.Turns.{ClimbsTo}
 use Rattle.steepest_ascent.specs.declared.ends.End.{End}
 use Rattle.steepest_ascent.specs.declared.ends.End.TheVariants.{Background, Root, Exit}
 use Rattle.steepest_ascent.proofs.Filling.{label_along, label_at_end, label_back, next_voxel}
+use Rattle.face_pointers.proofs.Standings.{standing_before}
 use Rattle.face_pointers.specs.Exits.{LeadsOn, TellsOf}
 
 -- an ascent that goes on leads on
