@@ -68,6 +68,7 @@ impl Edge {
     {
         let a = self.a;
         let b = self.b;
+        // what a contact knows of its count
         let _ = self.contact.count();
         (u64::from(a) << 32) + u64::from(b)
     }

@@ -73,7 +73,7 @@ fn add_faces(regions: &mut Vec<Region>, site: &Site, cell: &Cell, axis: u32) -> 
     let bit = 4u8.pow(axis);
     let has_low = cell.lo[axis as usize] > 0;
     add_layer(regions, labels, has_low, &lowest(cell, axis), bit)?;
-    let has_high = cell.hi[axis as usize] < length(labels.dims(), axis);
+    let has_high = cell.hi[axis as usize] < axis_length(labels.dims(), axis);
     add_layer(regions, labels, has_high, &highest(cell, axis), 2 * bit)?;
     Ok(())
 }
@@ -97,7 +97,7 @@ fn add_layer(
 }
 
 /// The length of an axis.
-fn length(dims: &Dims, axis: u32) -> u32
+fn axis_length(dims: &Dims, axis: u32) -> u32
     ensures { result ≡ length_on dims.now axis }
 {
     match axis {

@@ -28,10 +28,10 @@ returns c =
           (λ v i. low_test && in_box (c.labels-labels.ensures.axes i) (c.lowest.ensures i).lo (c.lowest.ensures i).hi v)
           c.pow-bit.ensures c.in_ok-add_layer.ensures;
       high = names-equal held.axes a held.labels labels
-          (λ v. ltb (get_or cell.hi axis 0) c.length.result && in_box held.axes c.highest.result.lo c.highest.result.hi v)
+          (λ v. ltb (get_or cell.hi axis 0) c.axis_length.result && in_box held.axes c.highest.result.lo c.highest.result.hi v)
           (λ v. high_test && in_box a (highest_from cell.lo cell.hi axis) cell.hi v) (2 * c.pow-bit.result) (2 * 4 ^ axis) between after
           c.labels-labels.ensures.axes c.labels-labels.ensures.labels
-          (λ v i. ltb (get_or cell.hi axis 0) ((c.length.ensures ∙ ap (λ b. length_on b axis) (c.dims.ensures.value ∙ c.labels-labels.ensures.axes)) i)
+          (λ v i. ltb (get_or cell.hi axis 0) ((c.axis_length.ensures ∙ ap (λ b. length_on b axis) (c.dims.ensures.value ∙ c.labels-labels.ensures.axes)) i)
           && in_box (c.labels-labels.ensures.axes i) (c.highest.ensures i).lo (c.highest.ensures i).hi v)
           (ap (λ n. 2 * n) c.pow-bit.ensures) c.in_ok-add_layer-2.ensures;
     }

@@ -1,5 +1,3 @@
-use Rattle.std.proofs.Common.{sym, subst}
-use Rattle.agglo_model.specs.Connected.{AreConnected}
 use Rattle.region_graph.proofs.tests.graph_of_leaf.Goals as goal
 
 pub new-site-requires-clause-connected : goal.new-site-requires-clause-connected
