@@ -1,10 +1,12 @@
 -- The leaves of a cutting, their cells and the ends within them.
-use Rattle.std.proofs.Common.{◌≡◌, ℕ, ◌+◌, ◌*◌, ◌<◌, ◌≤◌, List, length, get_or, sym, ◌∙◌, ap, subst, subst₂, arith}
+use Rattle.std.proofs.Common.{◌≡◌, ℕ, ◌+◌, ◌*◌, ◌<◌, ◌≤◌, List, length, get_or, sym, ◌∙◌, ap, subst, subst₂, arith, [], ◌∷◌, ◌++◌, ◌⊎◌, inl, inr, eq-or-lt_of_le}
+use Rattle.std.proofs.lemmas.List.{length_push, get_or_push, get_or_append_left}
 use Rattle.std.proofs.Math.Nat.{mul-le-mul_left}
 use Rattle.agglo_model.specs.Axes.{Axes, IsPlace, voxel_at, voxel_count}
 use Rattle.agglo_model.specs.Boxes.{IsBoxOf, box_grid, box_index}
 use Rattle.agglo_model.specs.Cell.{IsInBox}
-use Rattle.agglo_model.specs.Cutting.{cells_at, leaf_of, low_corner, high_corner}
+use Rattle.agglo_model.specs.Cutting.{Chunking, cells_at, leaf_of, low_corner, high_corner}
+use Rattle.agglo_model.specs.Grid.{Grid}
 use Rattle.agglo_model.proofs.BoxPlaces.{IsBoxPlace, box_index-lt, box_index-voxel, box_voxel-index, box_voxel-lt, box_voxel-place, box_voxel_in, place_of_box}
 use Rattle.face_pointers.proofs.LeafBoxes.{cell_is_box, leaf_holds, leaf_is_node, leaf_of-lt}
 use Rattle.agglo_model.specs.Basins.{label_of}
@@ -134,3 +136,17 @@ layer_done a y z i all lt = omega (arith, mul-le-mul_left a.nx all)
 
 pub all_done : (a : Axes) (z i : ℕ) → a.nz ≤ z → i < voxel_count a → i < voxel_at a 0 0 z
 all_done a z i all lt = omega (arith, mul-le-mul_left (a.nx * a.ny) all)
+
+-- the climbs of the leaves so far, and of one more
+pub climb_more : (g : Grid) (low : ℕ) (t : Chunking) (m : ℕ) (pieces : List CellEnds) (piece : CellEnds)
+    → length pieces ≡ m → ((k : ℕ) (d : CellEnds) → k < length pieces → IsLeafClimb g low t k (get_or pieces k d))
+    → IsLeafClimb g low t m piece
+    → (k : ℕ) (d : CellEnds) → k < length (pieces ++ piece ∷ []) → IsLeafClimb g low t k (get_or (pieces ++ piece ∷ []) k d)
+climb_more g low t m pieces piece len done here k d lt = pick (eq-or-lt_of_le (omega (arith, length_push pieces piece)))
+  where
+    pick : (k ≡ length pieces) ⊎ (k < length pieces) → IsLeafClimb g low t k (get_or (pieces ++ piece ∷ []) k d)
+    pick (inl last) =
+        subst (λ q. IsLeafClimb g low t k q) (sym (get_or_push pieces piece d k (sym last)))
+        (subst (λ j. IsLeafClimb g low t j piece) (sym len ∙ sym last) here)
+    pick (inr less) =
+        subst (λ q. IsLeafClimb g low t k q) (sym (get_or_append_left pieces (piece ∷ []) d k less)) (done k d less)

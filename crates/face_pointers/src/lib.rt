@@ -10,4 +10,4 @@ mod resolving;
 #[cfg(test)]
 mod tests;
 
-pub use resolving::resolve;
+pub use resolving::{climb_leaf, resolve};

@@ -1,14 +1,30 @@
-ghost use Rattle.std.specs.Prelude.{◌≡◌, IfOk};
+ghost use Rattle.std.specs.Prelude.{◌≡◌, ◌<◌, IfOk};
 ghost use Rattle.agglo_model.specs.Basins.{AreBasins};
-ghost use Rattle.face_pointers.specs.Pieces.{AreClimbs};
+ghost use Rattle.agglo_model.specs.Cutting.{cells_at};
+ghost use Rattle.face_pointers.specs.Pieces.{AreClimbs, IsLeafClimb};
 
 use crate::exits::Exits;
 use agglo_model::Memory;
 use chunk_tree::Cutting;
 use seg_base::Labels;
 use std::alloc::Global;
-use steepest_ascent::Ends;
+use steepest_ascent::{Ends, climb};
 use volume_file::Volume;
+
+/// The ends of the ascents within a leaf of a cutting.
+pub fn climb_leaf(
+    alloc: Global,
+    vol: &Volume,
+    low: u8,
+    cutting: &Cutting,
+    leaf: u32,
+) -> Result<Ends, Memory>
+    requires axes { cutting.now.axes ≡ vol.now.axes }
+    requires leaf { leaf < cells_at cutting.now 0 }
+    ensures { IfOk result (λ ends. IsLeafClimb vol.now low cutting.now leaf ends) }
+{
+    climb(alloc, vol, low, &cutting.cell(leaf))
+}
 
 /// The basin labels of a volume, from the ends of the ascents within the leaves of a cutting.
 pub fn resolve(

@@ -1,0 +1,78 @@
+ghost use Rattle.std.specs.Prelude.{◌≡◌, IfOk};
+ghost use Rattle.face_pointers.specs.Pieces.{AreClimbs};
+
+use crate::{climb_leaf, resolve};
+use agglo_model::Memory;
+use chunk_tree::Cutting;
+use seg_base::{DimFault, Dims};
+use std::alloc::{AllocError, Global};
+use steepest_ascent::Ends;
+use volume_file::{Head, Volume};
+
+#[derive(Debug, Drop)]
+enum Trouble {
+    Dims(DimFault),
+    Memory(Memory),
+    Alloc(AllocError),
+    Length,
+    Cut,
+}
+
+/// A row of voxels whose edges have these bytes.
+fn row(alloc: Global, bytes: &[u8], length: u32) -> Result<Volume, Trouble> {
+    let dims = Dims::new(length, 1, 1).map_err(Trouble::Dims)?;
+    let mut body = Vec::new(alloc);
+    for byte in bytes {
+        let edges = [*byte, 0, 0];
+        body.extend_from_slice(&edges).map_err(Trouble::Alloc)?;
+    }
+    if body.len() != dims.body_len() as usize {
+        return Err(Trouble::Length);
+    }
+    Ok(Volume::of(Head { dims, version: 1 }, body))
+}
+
+/// The ends of the ascents within each leaf, in order of number.
+fn climbs(alloc: Global, vol: &Volume, low: u8, cutting: &Cutting) -> Result<Vec<Ends>, Memory>
+    requires { cutting.now.axes ≡ vol.now.axes }
+    ensures { IfOk result (λ pieces. AreClimbs vol.now low cutting.now pieces.items) }
+{
+    let mut pieces = Vec::new(alloc);
+    for leaf in 0..cutting.leaves() {
+        let piece = climb_leaf(alloc, vol, low, cutting, leaf)?;
+        pieces.push(piece)?;
+    }
+    Ok(pieces)
+}
+
+/// The labels of a volume by leaves of this length on the x axis.
+fn labels(alloc: Global, vol: &Volume, low: u8, length: u32) -> Result<Vec<u32>, Trouble> {
+    let Ok(cutting) = Cutting::new(vol.dims(), [length, 1, 1]) else {
+        return Err(Trouble::Cut);
+    };
+    let pieces = climbs(alloc, vol, low, &cutting).map_err(Trouble::Memory)?;
+    let labels = resolve(alloc, vol, low, &cutting, pieces).map_err(Trouble::Memory)?;
+    labels.list().to_vec(alloc).map_err(Trouble::Alloc)
+}
+
+#[test]
+fn an_ascent_is_followed_through_faces(rt: HostRuntime) -> Result<(), Trouble> {
+    let vol = row(rt.alloc(), &[0, 100, 100, 100], 4)?;
+    let two = labels(rt.alloc(), &vol, 1, 2)?;
+    assert_eq!(rt; two.as_slice(), [1, 1, 1, 1].as_slice());
+    let one = labels(rt.alloc(), &vol, 1, 1)?;
+    assert_eq!(rt; one.as_slice(), [1, 1, 1, 1].as_slice());
+    let none = labels(rt.alloc(), &vol, 101, 2)?;
+    assert_eq!(rt; none.as_slice(), [0, 0, 0, 0].as_slice());
+    Ok(())
+}
+
+#[test]
+fn a_basin_on_both_sides_of_a_face(rt: HostRuntime) -> Result<(), Trouble> {
+    let vol = row(rt.alloc(), &[0, 200, 100, 200, 90, 200, 100, 200], 8)?;
+    for length in [1, 3, 6, 8] {
+        let found = labels(rt.alloc(), &vol, 1, length)?;
+        assert_eq!(rt; found.as_slice(), [1, 1, 3, 3, 5, 5, 7, 7].as_slice());
+    }
+    Ok(())
+}

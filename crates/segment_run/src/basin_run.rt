@@ -5,12 +5,12 @@ ghost use Rattle.face_pointers.specs.Pieces.{AreClimbs, IsLeafClimb};
 
 use agglo_model::Memory;
 use chunk_tree::Cutting;
-use face_pointers::resolve;
+use face_pointers::{climb_leaf, resolve};
 use rayon::prelude::*;
 use seg_base::Labels;
 use std::alloc::Global;
 use std::thread::Threads;
-use steepest_ascent::{Ends, climb, whole_basins};
+use steepest_ascent::{Ends, whole_basins};
 use volume_file::Volume;
 
 /// The basin labels of a volume, worked out leaf by leaf of a cutting, the leaves in several threads.
@@ -53,19 +53,4 @@ fn climb_all<R: Threads + Sync>(
             { climb_leaf(alloc, vol, low, cutting, leaf) },
         )
         .collect::<Result<Vec<Ends>, Memory>>(rt, alloc)?
-}
-
-/// The ends of the ascents within a leaf.
-fn climb_leaf(
-    alloc: Global,
-    vol: &Volume,
-    low: u8,
-    cutting: &Cutting,
-    leaf: u32,
-) -> Result<Ends, Memory>
-    requires axes { cutting.now.axes ≡ vol.now.axes }
-    requires leaf { leaf < cells_at cutting.now 0 }
-    ensures { IfOk result (λ ends. IsLeafClimb vol.now low cutting.now leaf ends) }
-{
-    climb(alloc, vol, low, &cutting.cell(leaf))
 }

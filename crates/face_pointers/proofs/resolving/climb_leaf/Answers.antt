@@ -2,7 +2,7 @@ use Rattle.std.proofs.Common.{sym, subst, subst₂}
 use Rattle.agglo_model.specs.Boxes.{IsBoxOf}
 use Rattle.agglo_model.specs.Cutting.{Chunking, low_corner, high_corner}
 use Rattle.face_pointers.proofs.LeafBoxes.{cell_is_box, leaf_is_node}
-use Rattle.segment_run.proofs.basin_run.climb_leaf.Goals as goal
+use Rattle.face_pointers.proofs.resolving.climb_leaf.Goals as goal
 
 pub cell-requires : goal.cell-requires
 cell-requires c = leaf_is_node c.args.cutting.now c.args.leaf c.requires.leaf
