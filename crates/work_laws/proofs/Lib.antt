@@ -5,3 +5,5 @@ pub mod ChildEdges
 pub mod AddedContacts
 pub mod KidContacts
 pub mod CrossingLabels
+pub mod KeptRegions
+pub mod KidNames
