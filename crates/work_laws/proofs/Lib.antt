@@ -7,3 +7,6 @@ pub mod KidContacts
 pub mod CrossingLabels
 pub mod KeptRegions
 pub mod KidNames
+pub mod JoinedContacts
+pub mod FaceBits
+pub mod JoinedFaces
