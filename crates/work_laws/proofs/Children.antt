@@ -130,7 +130,7 @@ module _ (c : Chunking) (h : IsChunking c) (m : ℕ) (node : m < node_count c) (
       (2 * cell_place c m 1 + coordinate (children_grid c m) i 1)
       (2 * cell_place c m 2 + coordinate (children_grid c m) i 2) (child_at i below)
 
-  child_half_x : (i : ℕ) → i < child_count c m → cell_place c (child c m i) 0 / 2 ≡ cell_place c m 0
+  pub child_half_x : (i : ℕ) → i < child_count c m → cell_place c (child c m i) 0 / 2 ≡ cell_place c m 0
   child_half_x i below =
       ap (λ p. p / 2) (child_place_x i below)
       ∙ child_half (cell_place c m 0) (coordinate (children_grid c m) i 0) (cells_on c (level_of c m - 1) 0) (child_offset i below).in_x
@@ -144,7 +144,7 @@ module _ (c : Chunking) (h : IsChunking c) (m : ℕ) (node : m < node_count c) (
       (2 * cell_place c m 1 + coordinate (children_grid c m) i 1)
       (2 * cell_place c m 2 + coordinate (children_grid c m) i 2) (child_at i below)
 
-  child_half_y : (i : ℕ) → i < child_count c m → cell_place c (child c m i) 1 / 2 ≡ cell_place c m 1
+  pub child_half_y : (i : ℕ) → i < child_count c m → cell_place c (child c m i) 1 / 2 ≡ cell_place c m 1
   child_half_y i below =
       ap (λ p. p / 2) (child_place_y i below)
       ∙ child_half (cell_place c m 1) (coordinate (children_grid c m) i 1) (cells_on c (level_of c m - 1) 1) (child_offset i below).in_y
@@ -158,7 +158,7 @@ module _ (c : Chunking) (h : IsChunking c) (m : ℕ) (node : m < node_count c) (
       (2 * cell_place c m 1 + coordinate (children_grid c m) i 1)
       (2 * cell_place c m 2 + coordinate (children_grid c m) i 2) (child_at i below)
 
-  child_half_z : (i : ℕ) → i < child_count c m → cell_place c (child c m i) 2 / 2 ≡ cell_place c m 2
+  pub child_half_z : (i : ℕ) → i < child_count c m → cell_place c (child c m i) 2 / 2 ≡ cell_place c m 2
   child_half_z i below =
       ap (λ p. p / 2) (child_place_z i below)
       ∙ child_half (cell_place c m 2) (coordinate (children_grid c m) i 2) (cells_on c (level_of c m - 1) 2) (child_offset i below).in_z

@@ -1,7 +1,7 @@
 -- The faces of all kept regions of one name together, bit by bit.
-use Rattle.std.proofs.Common.{◌≡◌, ℕ, zero, suc, ◌+◌, ◌<◌, ◌≤◌, ◌==◌, Bool, true, false, cond, ◌&&◌, ◌||◌, List, [], ◌∷◌, ◌++◌, length, fold, refl, sym, ap, ◌∙◌, subst, arith}
+use Rattle.std.proofs.Common.{◌≡◌, ◌⊎◌, inl, inr, ℕ, zero, suc, ◌+◌, ◌<◌, ◌≤◌, ◌==◌, Bool, true, false, cond, ◌&&◌, ◌||◌, List, [], ◌∷◌, ◌++◌, length, fold, refl, sym, ap, ◌∙◌, subst, arith}
 use Rattle.std.specs.Prelude.{Contains, map, filter, bit_and, bit_or}
-use Rattle.std.proofs.lemmas.Bool.{eqb-true}
+use Rattle.std.proofs.lemmas.Bool.{cases_lt, eqb-true}
 use Rattle.std.proofs.lemmas.List.{map-append}
 use Rattle.std.proofs.lemmas.List.Elements.{filter-append}
 use Rattle.std.proofs.lemmas.List.Sums.{fold-append}
@@ -37,20 +37,20 @@ or_assoc true b d = refl
 or_assoc false b d = refl
 
 -- one more region
-gather_step : (b : Bool) (named : Bool) (faces n x : ℕ) (rest : List Region) (r : Region)
+gather_step : (b named : Bool) (faces : ℕ) (rest : List Region) (r : Region)
     (low high low' high' : ℕ → Bool) → faces ≡ face_bits low high → (b ≡ true → r.faces ≡ face_bits low' high')
     → ((l h : ℕ → Bool) → fold bit_or (face_bits l h) (map (λ r. r.faces) rest)
     ≡ face_bits (λ axis. l axis || (named && low' axis)) (λ axis. h axis || (named && high' axis)))
     → fold bit_or faces (map (λ r. r.faces) (cond b (r ∷ rest) rest))
     ≡ face_bits (λ axis. low axis || ((b || named) && low' axis)) (λ axis. high axis || ((b || named) && high' axis))
-gather_step true named faces n x rest r low high low' high' start its more =
+gather_step true named faces rest r low high low' high' start its more =
     (λ i. fold bit_or (bit_or (start i) (its refl i)) (map (λ (s : Region). s.faces) rest))
     ∙ ap (λ k. fold bit_or k (map (λ (s : Region). s.faces) rest)) (or_faces low high low' high')
     ∙ more (λ axis. low axis || low' axis) (λ axis. high axis || high' axis)
     ∙ same_bits (λ axis. (low axis || low' axis) || (named && low' axis)) (λ axis. (high axis || high' axis) || (named && high' axis))
     (λ axis. low axis || low' axis) (λ axis. high axis || high' axis)
     (λ axis. or_self (low axis) (low' axis) named) (λ axis. or_self (high axis) (high' axis) named)
-gather_step false named faces n x rest r low high low' high' start its more =
+gather_step false named faces rest r low high low' high' start its more =
     ap (λ k. fold bit_or k (map (λ (s : Region). s.faces) rest)) start ∙ more low high
 
 -- regions of one name with the same faces
@@ -62,7 +62,7 @@ gather_alike x [] low' high' each low high =
     same_bits low high (λ axis. low axis || false) (λ axis. high axis || false)
     (λ axis. sym (or_false (low axis))) (λ axis. sym (or_false (high axis)))
 gather_alike x (r ∷ regions) low' high' each low high =
-    gather_step (r.name == x) (is_named regions x) (face_bits low high) 0 x (filter (λ (s : Region). s.name == x) regions) r
+    gather_step (r.name == x) (is_named regions x) (face_bits low high) (filter (λ (s : Region). s.name == x) regions) r
     low high low' high' refl
     (λ pass. each r (contains_head r regions) (eqb-true r.name x pass))
     (gather_alike x regions low' high' (λ s inside. each s (contains_tail r s regions inside)))
@@ -71,6 +71,37 @@ gather_alike x (r ∷ regions) low' high' each low high =
 abbrev pub some_from : (ℕ → ℕ → Bool) → ℕ → ℕ → ℕ → Bool
 some_from test i zero axis = false
 some_from test i (suc n) axis = test i axis || some_from test (i + 1) n axis
+
+or_cases : (a b : Bool) → (a || b) ≡ true → (a ≡ true) ⊎ (b ≡ true)
+or_cases true b pass = inl refl
+or_cases false b pass = inr pass
+
+or_left : (a b : Bool) → a ≡ true → (a || b) ≡ true
+or_left true b pass = refl
+or_left false b pass = cc
+
+or_right : (a b : Bool) → b ≡ true → (a || b) ≡ true
+or_right true b pass = refl
+or_right false b pass = pass
+
+pub one_some : (test : ℕ → ℕ → Bool) (i n axis : ℕ) → some_from test i n axis ≡ true
+    → (j : ℕ) × (j < i + n) × (test j axis ≡ true)
+one_some test i zero axis pass = cc
+one_some test i (suc n) axis pass = elim (or_cases (test i axis) (some_from test (i + 1) n axis) pass) [
+  | inl here ↦ (i, omega arith, here)
+  | inr later ↦ (let found = one_some test (i + 1) n axis later in (found.0, omega (arith, found.1), found.2))
+]
+
+pub some_one : (test : ℕ → ℕ → Bool) (i n axis j : ℕ) → i ≤ j → j < i + n → test j axis ≡ true
+    → some_from test i n axis ≡ true
+some_one test i zero axis j low high pass = absurd (omega arith)
+some_one test i (suc n) axis j low high pass = elim (cases_lt i j) [
+  | inl less ↦ or_right (test i axis) (some_from test (i + 1) n axis)
+      (some_one test (i + 1) n axis j (omega arith) (omega arith) pass)
+  | inr most ↦ (
+      let same : j ≡ i = omega arith in
+      or_left (test i axis) (some_from test (i + 1) n axis) (subst (λ k. test k axis ≡ true) same pass))
+]
 
 module _ (c : Chunking) (m x : ℕ) (low high : ℕ → ℕ → Bool) where
   -- each child adds these faces

@@ -10,3 +10,4 @@ pub mod KidNames
 pub mod JoinedContacts
 pub mod FaceBits
 pub mod JoinedFaces
+pub mod ChildFaces
