@@ -11,3 +11,4 @@ pub mod JoinedContacts
 pub mod FaceBits
 pub mod JoinedFaces
 pub mod ChildFaces
+pub mod JoinedGraphs
