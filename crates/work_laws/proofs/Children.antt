@@ -1,12 +1,12 @@
 -- The children of a node: their cells make up the node's cell, each voxel in one of them.
-use Rattle.std.proofs.Common.{◌≡◌, ◌≢◌, ℕ, suc, ◌+◌, ◌*◌, ◌-◌, ◌/◌, ◌<◌, ◌≤◌, min, ◌==◌, true, cond, refl, sym, ap, ◌∙◌, subst, arith}
+use Rattle.std.proofs.Common.{◌≡◌, ℕ, suc, ◌+◌, ◌*◌, ◌-◌, ◌/◌, ◌<◌, ◌≤◌, min, ◌==◌, true, cond, sym, ap, ◌∙◌, subst, arith}
 use Rattle.std.specs.Int.{div_ceil}
 use Rattle.std.proofs.Math.Nat.{div-div-eq-div-mul, pow-suc, mul-le-mul}
 use Rattle.agglo_model.specs.Axes.{IsWithinLimits, IsPlace, voxel_count, voxel_at, coordinate}
-use Rattle.agglo_model.specs.Cutting.{Chunking, IsChunking, length_on, cell_length, cells_on, level_grid, first_node, last_level, node_count, root, level_of, cell_place, node_at, node_above, children_on, children_grid, child_count, child}
+use Rattle.agglo_model.specs.Cutting.{Chunking, IsChunking, length_on, cell_length, cells_on, level_grid, first_node, node_count, level_of, cell_place, node_at, node_above, children_on, children_grid, child_count, child}
 use Rattle.agglo_model.specs.Freezing.{is_held}
 use Rattle.agglo_model.proofs.Places.{voxel_at-lt, place-voxel, voxel_at-place, coordinate-voxel_at_x, coordinate-voxel_at_y, coordinate-voxel_at_z}
-use Rattle.agglo_model.proofs.Levels.{IsOnLevel, on_level, level_of-is, cells_on-suc, cells_at-last}
+use Rattle.agglo_model.proofs.Levels.{IsOnLevel, on_level, level_of-is, cells_on-suc}
 use Rattle.agglo_model.proofs.NodeCells.{node_place, node-on_level, on_level-lt, voxel_cell, level_of-root}
 use Rattle.agglo_model.proofs.Freezing.{held_voxel, held_node, held_from}
 use Rattle.agglo_model.proofs.CellBoxes.{node-coordinates}
@@ -221,8 +221,7 @@ module _ (c : Chunking) (h : IsChunking c) (m : ℕ) (node : m < node_count c) (
       let to_y : 2 * cell_place c m 1 + coordinate grid i 1 ≡ py =
       ap (λ d. 2 * cell_place c m 1 + d) (coordinate-voxel_at_y grid dx dy dz offset) ∙ y.1 in
       let to_z : 2 * cell_place c m 2 + coordinate grid i 2 ≡ pz =
-      ap (λ d. 2 * cell_place c m 2 + d) (coordinate-voxel_at_z grid dx dy dz offset) ∙ z.1 in
-      (
+      ap (λ d. 2 * cell_place c m 2 + d) (coordinate-voxel_at_z grid dx dy dz offset) ∙ z.1 in (
         i,
         subst (λ n. i < n) (sym (children_of (level_of c m) (voxel_count grid) inner)) (voxel_at-lt grid dx dy dz offset),
         (λ j. first_node c (level_of c m - 1) + voxel_at (level_grid c (level_of c m - 1)) (to_x j) (to_y j) (to_z j)),

@@ -1,5 +1,5 @@
 -- Across the faces between two children of a node, contacts are those by the labels from the start.
-use Rattle.std.proofs.Common.{◌≡◌, ◌≢◌, inl, inr, ℕ, ◌+◌, ◌-◌, ◌<◌, ◌≤◌, ◌==◌, Bool, true, false, not, ◌&&◌, List, length, refl, sym, ap, ◌∙◌, subst, arith}
+use Rattle.std.proofs.Common.{◌≡◌, ◌≢◌, inl, inr, ℕ, ◌+◌, ◌-◌, ◌<◌, ◌==◌, Bool, true, false, not, ◌&&◌, List, length, refl, sym, ap, ◌∙◌, subst, arith}
 use Rattle.std.proofs.lemmas.Bool.{cases_Bool, and_parts, eq-eqb, false≢true}
 use mathlib.Core.Path.{fun_ext}
 use Rattle.agglo_model.specs.Axes.{is_edge, lower_end, higher_end}
@@ -9,7 +9,7 @@ use Rattle.agglo_model.specs.PairOrder.{Threshold}
 use Rattle.agglo_model.specs.Contacts.{are, differ, joins, total}
 use Rattle.agglo_model.specs.Connected.{AreNeighbours}
 use Rattle.agglo_model.specs.Greedy.{Merge}
-use Rattle.agglo_model.specs.Cutting.{Chunking, IsChunking, node_count, level_of, node_at, child_count, child}
+use Rattle.agglo_model.specs.Cutting.{Chunking, node_count, level_of, node_at, child_count, child}
 use Rattle.agglo_model.specs.Freezing.{is_held, is_inside}
 use Rattle.agglo_model.specs.Work.{labels_before, labels_after}
 use Rattle.agglo_model.specs.NodeLaws.{AreWorksOn}
@@ -92,8 +92,7 @@ module _ (g : Grid) (t : Threshold) (c : Chunking) (labels : List ℕ) (works : 
       λ same. false≢true (sym differ ∙ eq-eqb (node_at c (level_of c m - 1) v) (node_at c (level_of c m - 1) w) same) in
       let here : is_edge c.axes e ≡ true = subst (λ a. is_edge a e ≡ true) (sym on.axes) edge in
       let low = fresh_end v w ends.0 (e, here, inl (refl, refl)) apart in
-      let high = fresh_end w v ends.1 (e, here, inr (refl, refl)) (λ same. apart (sym same)) in
-      (
+      let high = fresh_end w v ends.1 (e, here, inr (refl, refl)) (λ same. apart (sym same)) in (
         subst (λ a. label_of (labels_before labels works m) (lower_end a e) ≡ label_of labels (lower_end a e)) on.axes low,
         high,
       )

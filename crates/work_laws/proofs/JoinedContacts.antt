@@ -1,5 +1,5 @@
 -- The contacts of a joined graph are those before the node's work, inside its cell.
-use Rattle.std.proofs.Common.{◌≡◌, ◌≢◌, inl, inr, ℕ, ◌+◌, ◌<◌, ◌≤◌, Bool, true, false, cond, ◌&&◌, ◌||◌, IsTrue, List, length, refl, sym, ap, ◌∙◌, subst, arith}
+use Rattle.std.proofs.Common.{◌≡◌, ◌≢◌, inl, inr, ℕ, ◌+◌, ◌<◌, Bool, true, false, cond, ◌&&◌, IsTrue, List, length, refl, sym, ap, ◌∙◌, subst, arith}
 use Rattle.std.specs.Prelude.{Contains}
 use mathlib.Core.Path.{fun_ext}
 use Rattle.agglo_model.specs.Grid.{Grid}
@@ -7,10 +7,9 @@ use Rattle.agglo_model.specs.PairOrder.{Contact, Threshold, added}
 use Rattle.agglo_model.specs.Contacts.{joins, total}
 use Rattle.agglo_model.specs.Greedy.{Merge}
 use Rattle.agglo_model.specs.Cutting.{Chunking, node_count, level_of, child_count, child}
-use Rattle.agglo_model.specs.Freezing.{is_inside}
 use Rattle.agglo_model.specs.Work.{labels_before}
 use Rattle.agglo_model.specs.NodeLaws.{AreWorksOn}
-use Rattle.agglo_model.specs.RegionGraph.{Region, GraphEdge, RegionGraph, HasRegion, no_contact, contact_in, between_inside, residue_of}
+use Rattle.agglo_model.specs.RegionGraph.{GraphEdge, RegionGraph, HasRegion, no_contact, contact_in, between_inside, residue_of}
 use Rattle.agglo_model.specs.Joining.{IsJoined, is_named, kept_regions, kept_edges, is_crossing, or_none, between_children}
 use Rattle.agglo_model.specs.JoiningLaws.{AreKids}
 use Rattle.agglo_model.proofs.GraphContacts.{same_contact}
@@ -96,9 +95,13 @@ module _ (g : Grid) (t : Threshold) (c : Chunking) (labels : List ℕ) (works : 
       let d = between_inside g c m (labels_before labels works m) e.a e.b in
       let same : (past : ℕ) → listed past d ≡ added e.contact (no_contact past) =
       λ past. sym (joined_contact past e.a e.b (omega arith) named_a named_b) ∙ edge_contact graph is past e there in
-      let some = count_of 0 d e.contact (same 0) (is.touching e there) in
-      (order, named_a, named_b, some,
-        contact_by_pasts e.contact d (λ past. sym (same past) ∙ listed-some past d some))
+      let some = count_of 0 d e.contact (same 0) (is.touching e there) in (
+        order,
+        named_a,
+        named_b,
+        some,
+        contact_by_pasts e.contact d (λ past. sym (same past) ∙ listed-some past d some),
+      )
 
   pub inside_edge : (e : GraphEdge) → IsEdgeInside e → Contains graph.edges e
   inside_edge e (order, named_a, named_b, some, contact) =

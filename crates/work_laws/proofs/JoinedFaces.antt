@@ -1,13 +1,13 @@
 -- The faces of all kept regions of one name together, bit by bit.
 use Rattle.std.proofs.Common.{◌≡◌, ◌⊎◌, inl, inr, ℕ, zero, suc, ◌+◌, ◌<◌, ◌≤◌, ◌==◌, Bool, true, false, cond, ◌&&◌, ◌||◌, List, [], ◌∷◌, ◌++◌, length, fold, refl, sym, ap, ◌∙◌, subst, arith}
-use Rattle.std.specs.Prelude.{Contains, map, filter, bit_and, bit_or}
+use Rattle.std.specs.Prelude.{Contains, map, filter, bit_or}
 use Rattle.std.proofs.lemmas.Bool.{cases_lt, eqb-true}
 use Rattle.std.proofs.lemmas.List.{map-append}
 use Rattle.std.proofs.lemmas.List.Elements.{filter-append}
 use Rattle.std.proofs.lemmas.List.Sums.{fold-append}
 use Rattle.agglo_model.specs.Cutting.{Chunking, face_bits, child}
 use Rattle.agglo_model.specs.RegionGraph.{Region, RegionGraph, residue_of}
-use Rattle.agglo_model.specs.Joining.{is_named, kept_faces, kept_region, kept_regions}
+use Rattle.agglo_model.specs.Joining.{is_named, kept_region, kept_regions}
 use Rattle.agglo_model.proofs.Members.{contains_head, contains_tail}
 use Rattle.work_laws.proofs.FaceBits.{or_faces, same_bits}
 

@@ -1,5 +1,5 @@
 -- A graph joined from the residues of a node's children is that of the names in the node's cell which are kept.
-use Rattle.std.proofs.Common.{◌≡◌, ◌≢◌, ℕ, ◌+◌, ◌<◌, ◌≤◌, ◌==◌, Bool, true, false, ◌&&◌, ◌||◌, IsTrue, List, length, refl, sym, ap, ◌∙◌, subst, arith}
+use Rattle.std.proofs.Common.{◌≡◌, ℕ, ◌+◌, ◌<◌, ◌==◌, Bool, true, false, ◌&&◌, ◌||◌, IsTrue, List, length, refl, sym, ap, ◌∙◌, subst, arith}
 use Rattle.std.specs.Prelude.{Contains, map, bit_and}
 use Rattle.std.proofs.lemmas.Bool.{and_parts, and_from}
 use Rattle.agglo_model.specs.Axes.{coordinate}
@@ -122,9 +122,12 @@ module _ (g : Grid) (t : Threshold) (c : Chunking) (labels : List ℕ) (works : 
       regions = λ r. (
         (λ inside.
             let is = (joined.regions r).0 inside in
-            let by = named_by g t c labels works on m worked node inner kids are_kids r.name is.0 in
-            (by.1.name, occurs_up g t c labels works on m worked node inner kids are_kids r.name by.0 by.1.below by.1.occurs,
-              is.0, is.1 ∙ faces_touched r.name is.0)),
+            let by = named_by g t c labels works on m worked node inner kids are_kids r.name is.0 in (
+              by.1.name,
+              occurs_up g t c labels works on m worked node inner kids are_kids r.name by.0 by.1.below by.1.occurs,
+              is.0,
+              is.1 ∙ faces_touched r.name is.0,
+            )),
         (λ now. (joined.regions r).1 (now.2, now.3 ∙ sym (faces_touched r.name now.2))),
       );
       edges = λ e. (

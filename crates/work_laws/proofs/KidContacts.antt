@@ -1,7 +1,7 @@
 -- The contacts of two names in the residues of a node's children are those inside the children's cells.
-use Rattle.std.proofs.Common.{◌≡◌, ◌≢◌, ◌⊎◌, inl, inr, ℕ, zero, suc, ◌+◌, ◌<◌, ◌≤◌, Bool, true, false, ◌&&◌, ◌||◌, List, [], ◌∷◌, length, get_or, refl, sym, ap, ◌∙◌, subst, arith}
+use Rattle.std.proofs.Common.{◌≡◌, ◌≢◌, ◌⊎◌, inl, inr, ℕ, suc, ◌+◌, ◌<◌, ◌≤◌, Bool, true, false, ◌&&◌, ◌||◌, List, [], ◌∷◌, length, refl, sym, ap, ◌∙◌, subst, arith}
 use Rattle.std.specs.Prelude.{Contains, map, filter}
-use Rattle.std.proofs.lemmas.Bool.{cases_Bool, cases_lt, and_parts, false≢true}
+use Rattle.std.proofs.lemmas.Bool.{cases_Bool, cases_lt}
 use Rattle.std.proofs.lemmas.Bool.Decides.{nat_tests}
 use mathlib.Core.Path.{fun_ext}
 use Rattle.agglo_model.specs.Axes.{is_edge}
@@ -10,7 +10,7 @@ use Rattle.agglo_model.specs.PairOrder.{added}
 use Rattle.agglo_model.specs.Contacts.{are, differ, joins, lower_label, higher_label, total}
 use Rattle.agglo_model.specs.Cutting.{Chunking, IsChunking, node_count, level_of, child_count, child}
 use Rattle.agglo_model.specs.Freezing.{is_inside}
-use Rattle.agglo_model.specs.RegionGraph.{GraphEdge, RegionGraph, IsGraphOfNames, is_between, no_contact, all_added, contact_in, between_inside, residue_of}
+use Rattle.agglo_model.specs.RegionGraph.{GraphEdge, RegionGraph, IsGraphOfNames, is_between, all_added, contact_in, between_inside, residue_of}
 use Rattle.agglo_model.specs.Joining.{kept_edges}
 use Rattle.agglo_model.proofs.GraphContacts.{contact_in-is, contact_in-append, joint-none}
 use Rattle.agglo_model.proofs.GraphEdges.{edge_contact, between_names}

@@ -1,5 +1,5 @@
 -- The names that the children of a node pass on, by the labels before the node's work.
-use Rattle.std.proofs.Common.{◌≡◌, ◌≢◌, ◌⊎◌, inl, inr, ℕ, zero, suc, ◌+◌, ◌-◌, ◌<◌, ◌≤◌, ◌==◌, Bool, true, false, ◌&&◌, IsTrue, List, length, refl, sym, ap, ◌∙◌, subst, arith}
+use Rattle.std.proofs.Common.{◌≡◌, ◌≢◌, ◌⊎◌, inl, inr, ℕ, zero, suc, ◌+◌, ◌<◌, Bool, true, ◌&&◌, IsTrue, List, length, refl, sym, ap, ◌∙◌, subst, arith}
 use Rattle.std.specs.Prelude.{Contains}
 use Rattle.std.proofs.lemmas.Bool.{and_parts}
 use Rattle.std.proofs.lemmas.Bool.Decides.{nat_tests}
@@ -7,14 +7,14 @@ use Rattle.agglo_model.specs.Axes.{is_edge, lower_end, higher_end}
 use Rattle.agglo_model.specs.Basins.{label_of}
 use Rattle.agglo_model.specs.Grid.{Grid}
 use Rattle.agglo_model.specs.PairOrder.{Threshold}
-use Rattle.agglo_model.specs.Contacts.{are, differ, joins, lower_label, higher_label, total}
+use Rattle.agglo_model.specs.Contacts.{are, differ, joins, lower_label, higher_label}
 use Rattle.agglo_model.specs.Greedy.{Merge}
 use Rattle.agglo_model.specs.Connected.{AreConnected}
-use Rattle.agglo_model.specs.Cutting.{Chunking, IsChunking, node_count, level_of, child_count, child}
-use Rattle.agglo_model.specs.Freezing.{is_held, is_inside, is_part, occurs_in, touched_faces, IsFrozen}
+use Rattle.agglo_model.specs.Cutting.{Chunking, node_count, level_of, child_count, child}
+use Rattle.agglo_model.specs.Freezing.{is_held, is_inside, occurs_in, touched_faces, IsFrozen}
 use Rattle.agglo_model.specs.Work.{IsFree, IsPassed, labels_before, labels_after}
 use Rattle.agglo_model.specs.NodeLaws.{AreWorksOn}
-use Rattle.agglo_model.specs.RegionGraph.{Region, RegionGraph, IsGraphOfNames, between_inside, residue_of}
+use Rattle.agglo_model.specs.RegionGraph.{RegionGraph, IsGraphOfNames, between_inside, residue_of}
 use Rattle.agglo_model.specs.Joining.{is_named, kept_regions}
 use Rattle.agglo_model.specs.JoiningLaws.{AreKids, NoneReaches}
 use Rattle.agglo_model.proofs.Freezing.{occurs_at, part_held, part_name, part_from, frozen_touches}
@@ -26,7 +26,7 @@ use Rattle.agglo_model.proofs.Works.{works_keep, connected_before}
 use Rattle.work_laws.proofs.SameCells.{AgreeIn, same_occurs, frozen_alike, same_graph}
 use Rattle.work_laws.proofs.Children.{child_below, child_level, child_before, child_of, child_holds, child_node, child_within, one_child}
 use Rattle.work_laws.proofs.CrossingLabels.{child_waits}
-use Rattle.work_laws.proofs.KeptRegions.{IsKeptFrom, kept_from, from_kept, named_region, region_named}
+use Rattle.work_laws.proofs.KeptRegions.{kept_from, from_kept, named_region, region_named}
 use Rattle.work_laws.proofs.KidContacts.{KeepsBoth}
 
 -- the ends of an edge that joins two names have them
@@ -71,13 +71,15 @@ module _ (g : Grid) (t : Threshold) (c : Chunking) (labels : List ℕ) (works : 
       let below : kept.kid < child_count c m = omega (arith, kept.below, are_kids.one_each) in
       let r = kept.region in
       let is = ((kid_graph kept.kid below).regions r).0 kept.there in
-      let name : r.name ≡ x = ap (λ s. s.name) kept.becomes ∙ found.2 in
-      (kept.kid, record {
-        below = below;
-        name = subst (λ y. y ≢ 0) name is.0;
-        occurs = subst (λ y. IsTrue (occurs_in c (child c m kept.kid) (labels_before labels works m) y)) name is.1;
-        passed = subst (Passes kept.kid) name is.2;
-      })
+      let name : r.name ≡ x = ap (λ s. s.name) kept.becomes ∙ found.2 in (
+        kept.kid,
+        record {
+          below = below;
+          name = subst (λ y. y ≢ 0) name is.0;
+          occurs = subst (λ y. IsTrue (occurs_in c (child c m kept.kid) (labels_before labels works m) y)) name is.1;
+          passed = subst (Passes kept.kid) name is.2;
+        },
+      )
 
   pub passed_region : (x i : ℕ) → IsNamedBy x i → Contains (residue_of kids i).regions
       (record { name = x; faces = touched_faces c (child c m i) (labels_before labels works m) x })
@@ -114,12 +116,15 @@ module _ (g : Grid) (t : Threshold) (c : Chunking) (labels : List ℕ) (works : 
       let found = (occurs_at c m l x).0 occurs in
       let v = found.0 in
       let held = part_held c m l x v found.1 in
-      let kid = child_of c on.cutting m node inner v held in
-      (kid.0, kid.1, (occurs_at c (child c m kid.0) l x).1 (
-        v,
-        part_from c (child c m kid.0) l x v (child_holds c on.cutting m node inner v kid.0 kid.1 held kid.2)
-            (part_name c m l x v found.1),
-      ))
+      let kid = child_of c on.cutting m node inner v held in (
+        kid.0,
+        kid.1,
+        (occurs_at c (child c m kid.0) l x).1 (
+          v,
+          part_from c (child c m kid.0) l x v (child_holds c on.cutting m node inner v kid.0 kid.1 held kid.2)
+              (part_name c m l x v found.1),
+        ),
+      )
 
   frozen_passed : (x i : ℕ) → i < child_count c m → x ≢ 0 → IsFrozen c (child c m i) (labels_before labels works m) x
       → Passes i x
