@@ -12,3 +12,4 @@ pub mod FaceBits
 pub mod JoinedFaces
 pub mod ChildFaces
 pub mod JoinedGraphs
+pub mod Turns

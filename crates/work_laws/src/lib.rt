@@ -5,6 +5,7 @@
 #![tactic(auto)]
 
 ghost use Rattle.agglo_model.specs.JoiningLaws.{JoinedStart, LeavesStart};
+ghost use Rattle.work_laws.specs.Turns.{LeavesTakeTurns, NodesTakeTurns, ParentsTakeTurns, ResiduesStay};
 
 /// The graph of a leaf's cell under the labels from the start is that under the labels before its work.
 pub fn leaves_start()
@@ -15,4 +16,25 @@ pub fn leaves_start()
 /// names of its cell that may still be merged, with their faces and contacts before the node's work.
 pub fn joined_start()
     ensures { JoinedStart }
+{}
+
+/// Where settling a graph is the work of its node, settling one that the next node starts from adds that
+/// node's work to those before it, and leaves its residue.
+pub fn nodes_take_turns()
+    ensures { NodesTakeTurns }
+{}
+
+/// So it is for a leaf, from the graph of its cell under the labels from the start.
+pub fn leaves_take_turns()
+    ensures { LeavesTakeTurns }
+{}
+
+/// And for a node that is no leaf, from the graph joined from the residues of its children.
+pub fn parents_take_turns()
+    ensures { ParentsTakeTurns }
+{}
+
+/// The residue of a node stays its residue when the works go on.
+pub fn residues_stay()
+    ensures { ResiduesStay }
 {}
