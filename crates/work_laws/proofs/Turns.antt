@@ -1,6 +1,5 @@
 -- Settling the graphs of the nodes one after another adds their works, and leaves their residues.
 use Rattle.std.proofs.Common.{◌≡◌, ℕ, suc, ◌+◌, ◌<◌, ◌≤◌, true, IsTrue, List, [], ◌∷◌, ◌++◌, length, get_or, refl, sym, ap, ◌∙◌, subst, arith}
-use Rattle.std.specs.Prelude.{Contains}
 use Rattle.std.proofs.Math.Seq.{get_or-append_seam}
 use Rattle.std.proofs.lemmas.List.{take_all, take-append-le, length-append}
 use Rattle.std.proofs.lemmas.Grind.{fold-append}
@@ -10,7 +9,7 @@ use Rattle.agglo_model.specs.Greedy.{Merge, after_merge, after_merges}
 use Rattle.agglo_model.specs.Cutting.{Chunking, node_count, cells_at, last_level}
 use Rattle.agglo_model.specs.Work.{IsWork, AreWorksFrom, all_merges, work_of, labels_before, labels_after}
 use Rattle.agglo_model.specs.NodeLaws.{AreWorksOn}
-use Rattle.agglo_model.specs.RegionGraph.{RegionGraph, IsCellGraph, IsGraphOfNames, IsResidue}
+use Rattle.agglo_model.specs.RegionGraph.{RegionGraph, IsCellGraph, IsResidue}
 use Rattle.agglo_model.specs.Joining.{is_named, kept_regions}
 use Rattle.agglo_model.specs.JoiningLaws.{StartsNode}
 use Rattle.agglo_model.proofs.Levels.{first_node_le}
@@ -28,10 +27,12 @@ one_more g t c n labels [] merges are next =
     (subst (λ k. IsWork g t c k labels merges) here next, tt)
 one_more g t c n labels (work ∷ works) merges are next =
     let node : n + suc (length works) ≡ suc n + length works = omega arith in
-    let from = fold-append after_merge labels work (all_merges works) in
-    (are.0, one_more g t c (suc n) (after_merges labels work) works merges are.1
-      (subst (λ l. IsWork g t c (suc n + length works) l merges) from
-      (subst (λ k. IsWork g t c k (after_merges labels (all_merges (work ∷ works))) merges) node next)))
+    let from = fold-append after_merge labels work (all_merges works) in (
+      are.0,
+      one_more g t c (suc n) (after_merges labels work) works merges are.1
+          (subst (λ l. IsWork g t c (suc n + length works) l merges) from
+          (subst (λ k. IsWork g t c k (after_merges labels (all_merges (work ∷ works))) merges) node next)),
+    )
 
 -- the labels before a node are those by the works before it
 before_alike : (labels : List ℕ) (works more : List (List Merge)) (m : ℕ) → m ≤ length works

@@ -1,5 +1,5 @@
 -- The nodes take their turns: what settling the graph of a node adds to the works before it.
-use Rattle.std.specs.Prelude.{◌≡◌, ℕ, ◌+◌, ◌<◌, ◌≤◌, Bool, IsTrue, List, [], ◌∷◌, ◌++◌, length}
+use Rattle.std.specs.Prelude.{◌≡◌, ℕ, ◌<◌, Bool, IsTrue, List, [], ◌∷◌, ◌++◌, length}
 use Rattle.agglo_model.specs.Grid.{Grid}
 use Rattle.agglo_model.specs.PairOrder.{Threshold}
 use Rattle.agglo_model.specs.Greedy.{Merge, after_merges}
