@@ -1,47 +1,17 @@
 -- The edges inside a node's cell: those inside the cell of one child, and those across a face between two.
-use Rattle.std.proofs.Common.{◌≡◌, ◌⊎◌, inl, inr, ℕ, zero, suc, ◌+◌, ◌-◌, ◌<◌, ◌≤◌, ◌==◌, Bool, true, false, not, ◌&&◌, ◌||◌, refl, sym, ◌∙◌, subst, arith}
-use Rattle.std.proofs.lemmas.Bool.{cases_Bool, cases_lt, and_parts, and_from, eqb-true, eq-eqb, false≢true}
+use Rattle.std.proofs.Common.{◌≡◌, ◌⊎◌, inl, inr, ℕ, zero, suc, ◌+◌, ◌-◌, ◌<◌, ◌≤◌, ◌==◌, Bool, true, false, not, ◌&&◌, ◌||◌, sym, ◌∙◌, subst, arith}
+use Rattle.std.proofs.lemmas.Bool.{cases_Bool, cases_lt, and_parts, and_from, eqb-true, eq-eqb, false≢true, or_cases, or_left, or_right, not-true, not_from_false}
 use Rattle.agglo_model.specs.Axes.{lower_end, higher_end}
 use Rattle.agglo_model.specs.Cutting.{Chunking, IsChunking, node_count, level_of, node_at, child_count, child}
 use Rattle.agglo_model.specs.Freezing.{is_held, is_inside}
 use Rattle.agglo_model.specs.Joining.{is_crossing}
+use Rattle.work_laws.proofs.Tests.{same_test, not_both}
 use Rattle.work_laws.proofs.Children.{child_of, child_holds, child_node, child_within, one_child}
 
 -- the edge lies inside the cell of one of n children, from number i on
 abbrev pub inside_from : Chunking → ℕ → ℕ → ℕ → ℕ → Bool
 inside_from c m i zero e = false
 inside_from c m i (suc n) e = is_inside c (child c m i) e || inside_from c m (i + 1) n e
-
-or_cases : (a b : Bool) → (a || b) ≡ true → (a ≡ true) ⊎ (b ≡ true)
-or_cases true b pass = inl refl
-or_cases false b pass = inr pass
-
-or_left : (a b : Bool) → a ≡ true → (a || b) ≡ true
-or_left true b pass = refl
-or_left false b pass = absurd (false≢true pass)
-
-or_right : (a b : Bool) → b ≡ true → (a || b) ≡ true
-or_right true b pass = refl
-or_right false b pass = pass
-
-not_both : (a b : Bool) → (a ≡ true → b ≡ true → ⊥) → (a && b) ≡ false
-not_both true true apart = absurd (apart refl refl)
-not_both true false apart = refl
-not_both false b apart = refl
-
-pub both_ways : (a b : Bool) → (a ≡ true → b ≡ true) → (b ≡ true → a ≡ true) → a ≡ b
-both_ways true true to from = refl
-both_ways true false to from = sym (to refl)
-both_ways false true to from = from refl
-both_ways false false to from = refl
-
-not_true : (a : Bool) → not a ≡ true → a ≡ false
-not_true true is = absurd (false≢true is)
-not_true false is = refl
-
-not_false : (a : Bool) → a ≡ false → not a ≡ true
-not_false true is = absurd (false≢true (sym is))
-not_false false is = refl
 
 one_inside : (c : Chunking) (m e i n : ℕ) → inside_from c m i n e ≡ true
     → (j : ℕ) × (i ≤ j) × (j < i + n) × (is_inside c (child c m j) e ≡ true)
@@ -95,7 +65,7 @@ module _ (c : Chunking) (h : IsChunking c) (m : ℕ) (node : m < node_count c) (
       let ends = ends_of (child c m j) e found.3 in
       let low = child_node c h m node inner (lower_end c.axes e) j below ends.0 in
       let high = child_node c h m node inner (higher_end e) j below ends.1 in
-      let differ = not_true (node_at c (level_of c m - 1) (lower_end c.axes e) == node_at c (level_of c m - 1) (higher_end e))
+      let differ = not-true (node_at c (level_of c m - 1) (lower_end c.axes e) == node_at c (level_of c m - 1) (higher_end e))
       (and_parts (is_inside c m e) _ crossing).1 in
       false≢true (sym differ ∙ eq-eqb (node_at c (level_of c m - 1) (lower_end c.axes e)) (node_at c (level_of c m - 1) (higher_end e)) (low ∙ sym high)))
 
@@ -118,7 +88,7 @@ module _ (c : Chunking) (h : IsChunking c) (m : ℕ) (node : m < node_count c) (
       elim (cases_Bool (node_at c (level_of c m - 1) (lower_end c.axes e) == node_at c (level_of c m - 1) (higher_end e))) [
         | inr differ ↦ or_right (inside_from c m 0 (child_count c m) e) (is_crossing c m e)
             (and_from (is_inside c m e) (not (node_at c (level_of c m - 1) (lower_end c.axes e) == node_at c (level_of c m - 1) (higher_end e)))
-            inside (not_false _ differ))
+            inside (not_from_false _ differ))
         | inl alike ↦ (
             let ends = ends_of m e inside in
             let found = child_of c h m node inner v ends.0 in
@@ -132,5 +102,5 @@ module _ (c : Chunking) (h : IsChunking c) (m : ℕ) (node : m < node_count c) (
 
   -- the edges inside the node's cell are these two kinds
   pub inside_or_crossing : (e : ℕ) → (inside_from c m 0 (child_count c m) e || is_crossing c m e) ≡ is_inside c m e
-  inside_or_crossing e = both_ways (inside_from c m 0 (child_count c m) e || is_crossing c m e) (is_inside c m e)
+  inside_or_crossing e = same_test (inside_from c m 0 (child_count c m) e || is_crossing c m e) (is_inside c m e)
       (within_node e) (from_node e)

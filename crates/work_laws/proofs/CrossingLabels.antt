@@ -1,6 +1,7 @@
 -- Across the faces between two children of a node, contacts are those by the labels from the start.
-use Rattle.std.proofs.Common.{◌≡◌, ◌≢◌, inl, inr, ℕ, ◌+◌, ◌-◌, ◌<◌, ◌==◌, Bool, true, false, not, ◌&&◌, List, length, refl, sym, ap, ◌∙◌, subst, arith}
-use Rattle.std.proofs.lemmas.Bool.{cases_Bool, and_parts, eq-eqb, false≢true}
+use Rattle.std.proofs.Common.{◌≡◌, ◌≢◌, inl, inr, ℕ, ◌+◌, ◌-◌, ◌<◌, ◌==◌, Bool, true, false, ◌&&◌, List, length, refl, sym, ap, ◌∙◌, subst, arith}
+use Rattle.std.proofs.Math.Bool.{and-false}
+use Rattle.std.proofs.lemmas.Bool.{cases_Bool, and_parts, eq-eqb, false≢true, not-true}
 use mathlib.Core.Path.{fun_ext}
 use Rattle.agglo_model.specs.Axes.{is_edge, lower_end, higher_end}
 use Rattle.agglo_model.specs.Basins.{label_of}
@@ -29,15 +30,8 @@ cross_step false k p q p' q' x y same = refl
 cross_step true true p q p' q' x y same =
     let ends = same refl refl in
     λ j. ((true && differ (ends.0 j) (ends.1 j)) && are (ends.0 j) (ends.1 j) x y) && true
-cross_step true false p q p' q' x y same = none _ ∙ sym (none _)
-  where
-    none : (a : Bool) → (a && false) ≡ false
-    none true = refl
-    none false = refl
-
-not_true : (a : Bool) → not a ≡ true → a ≡ false
-not_true true is = absurd (false≢true is)
-not_true false is = refl
+cross_step true false p q p' q' x y same =
+    and-false (differ p q && are p q x y) ∙ sym (and-false (differ p' q' && are p' q' x y))
 
 module _ (g : Grid) (t : Threshold) (c : Chunking) (labels : List ℕ) (works : List (List Merge))
     (on : AreWorksOn g t c labels works) (m : ℕ) (worked : length works ≡ m) (node : m < node_count c)
@@ -87,7 +81,7 @@ module _ (g : Grid) (t : Threshold) (c : Chunking) (labels : List ℕ) (works : 
       let w = higher_end e in
       let parts = and_parts (is_inside c m e) _ crosses in
       let ends = and_parts (is_held c m v) (is_held c m w) parts.0 in
-      let differ = not_true (node_at c (level_of c m - 1) v == node_at c (level_of c m - 1) w) parts.1 in
+      let differ = not-true (node_at c (level_of c m - 1) v == node_at c (level_of c m - 1) w) parts.1 in
       let apart : node_at c (level_of c m - 1) v ≢ node_at c (level_of c m - 1) w =
       λ same. false≢true (sym differ ∙ eq-eqb (node_at c (level_of c m - 1) v) (node_at c (level_of c m - 1) w) same) in
       let here : is_edge c.axes e ≡ true = subst (λ a. is_edge a e ≡ true) (sym on.axes) edge in

@@ -1,7 +1,8 @@
 -- The faces of all kept regions of one name together, bit by bit.
-use Rattle.std.proofs.Common.{◌≡◌, ◌⊎◌, inl, inr, ℕ, zero, suc, ◌+◌, ◌<◌, ◌≤◌, ◌==◌, Bool, true, false, cond, ◌&&◌, ◌||◌, List, [], ◌∷◌, ◌++◌, length, fold, refl, sym, ap, ◌∙◌, subst, arith}
+use Rattle.std.proofs.Common.{◌≡◌, inl, inr, ℕ, zero, suc, ◌+◌, ◌<◌, ◌≤◌, ◌==◌, Bool, true, false, cond, ◌&&◌, ◌||◌, List, [], ◌∷◌, ◌++◌, length, fold, refl, sym, ap, ◌∙◌, subst, arith}
 use Rattle.std.specs.Prelude.{Contains, map, filter, bit_or}
-use Rattle.std.proofs.lemmas.Bool.{cases_lt, eqb-true}
+use Rattle.std.proofs.Math.Bool.{or_assoc, or-false}
+use Rattle.std.proofs.lemmas.Bool.{cases_lt, eqb-true, or_cases, or_left, or_right}
 use Rattle.std.proofs.lemmas.List.{map-append}
 use Rattle.std.proofs.lemmas.List.Elements.{filter-append}
 use Rattle.std.proofs.lemmas.List.Sums.{fold-append}
@@ -9,6 +10,7 @@ use Rattle.agglo_model.specs.Cutting.{Chunking, face_bits, child}
 use Rattle.agglo_model.specs.RegionGraph.{Region, RegionGraph, residue_of}
 use Rattle.agglo_model.specs.Joining.{is_named, kept_region, kept_regions}
 use Rattle.agglo_model.proofs.Members.{contains_head, contains_tail}
+use Rattle.work_laws.proofs.Tests.{or_again}
 use Rattle.work_laws.proofs.FaceBits.{or_faces, same_bits}
 
 -- the faces of the regions of the name x, with those that are there already
@@ -21,20 +23,6 @@ gathered-append faces x rs ss =
     ∙ ap (fold bit_or faces) (map-append (λ (r : Region). r.faces) (filter (λ (r : Region). r.name == x) rs) (filter (λ (r : Region). r.name == x) ss))
     ∙ fold-append bit_or faces (map (λ (r : Region). r.faces) (filter (λ (r : Region). r.name == x) rs))
     (map (λ (r : Region). r.faces) (filter (λ (r : Region). r.name == x) ss))
-
-or_false : (a : Bool) → (a || false) ≡ a
-or_false true = refl
-or_false false = refl
-
-or_self : (a b k : Bool) → ((a || b) || (k && b)) ≡ (a || b)
-or_self true b k = refl
-or_self false true k = refl
-or_self false false true = refl
-or_self false false false = refl
-
-or_assoc : (a b d : Bool) → ((a || b) || d) ≡ (a || (b || d))
-or_assoc true b d = refl
-or_assoc false b d = refl
 
 -- one more region
 gather_step : (b named : Bool) (faces : ℕ) (rest : List Region) (r : Region)
@@ -49,7 +37,7 @@ gather_step true named faces rest r low high low' high' start its more =
     ∙ more (λ axis. low axis || low' axis) (λ axis. high axis || high' axis)
     ∙ same_bits (λ axis. (low axis || low' axis) || (named && low' axis)) (λ axis. (high axis || high' axis) || (named && high' axis))
     (λ axis. low axis || low' axis) (λ axis. high axis || high' axis)
-    (λ axis. or_self (low axis) (low' axis) named) (λ axis. or_self (high axis) (high' axis) named)
+    (λ axis. or_again (low axis) (low' axis) named) (λ axis. or_again (high axis) (high' axis) named)
 gather_step false named faces rest r low high low' high' start its more =
     ap (λ k. fold bit_or k (map (λ (s : Region). s.faces) rest)) start ∙ more low high
 
@@ -60,7 +48,7 @@ pub gather_alike : (x : ℕ) (regions : List Region) (low' high' : ℕ → Bool)
     ≡ face_bits (λ axis. low axis || (is_named regions x && low' axis)) (λ axis. high axis || (is_named regions x && high' axis))
 gather_alike x [] low' high' each low high =
     same_bits low high (λ axis. low axis || false) (λ axis. high axis || false)
-    (λ axis. sym (or_false (low axis))) (λ axis. sym (or_false (high axis)))
+    (λ axis. sym (or-false (low axis))) (λ axis. sym (or-false (high axis)))
 gather_alike x (r ∷ regions) low' high' each low high =
     gather_step (r.name == x) (is_named regions x) (face_bits low high) (filter (λ (s : Region). s.name == x) regions) r
     low high low' high' refl
@@ -71,18 +59,6 @@ gather_alike x (r ∷ regions) low' high' each low high =
 abbrev pub some_from : (ℕ → ℕ → Bool) → ℕ → ℕ → ℕ → Bool
 some_from test i zero axis = false
 some_from test i (suc n) axis = test i axis || some_from test (i + 1) n axis
-
-or_cases : (a b : Bool) → (a || b) ≡ true → (a ≡ true) ⊎ (b ≡ true)
-or_cases true b pass = inl refl
-or_cases false b pass = inr pass
-
-or_left : (a b : Bool) → a ≡ true → (a || b) ≡ true
-or_left true b pass = refl
-or_left false b pass = cc
-
-or_right : (a b : Bool) → b ≡ true → (a || b) ≡ true
-or_right true b pass = refl
-or_right false b pass = pass
 
 pub one_some : (test : ℕ → ℕ → Bool) (i n axis : ℕ) → some_from test i n axis ≡ true
     → (j : ℕ) × (j < i + n) × (test j axis ≡ true)
@@ -115,7 +91,7 @@ module _ (c : Chunking) (m x : ℕ) (low high : ℕ → ℕ → Bool) where
       ≡ face_bits (λ axis. l axis || some_from low i (length kids) axis) (λ axis. h axis || some_from high i (length kids) axis)
   gather_all i [] each l h =
       same_bits l h (λ axis. l axis || false) (λ axis. h axis || false)
-      (λ axis. sym (or_false (l axis))) (λ axis. sym (or_false (h axis)))
+      (λ axis. sym (or-false (l axis))) (λ axis. sym (or-false (h axis)))
   gather_all i (kid ∷ kids) each l h =
       let here : i + 0 ≡ i = omega arith in
       let first : gathered (face_bits l h) x (map (kept_region c m (child c m i)) kid.regions)

@@ -1,7 +1,7 @@
 -- A graph joined from the residues of a node's children is that of the names in the node's cell which are kept.
 use Rattle.std.proofs.Common.{◌≡◌, ℕ, ◌+◌, ◌<◌, ◌==◌, Bool, true, false, ◌&&◌, ◌||◌, IsTrue, List, length, refl, sym, ap, ◌∙◌, subst, arith}
 use Rattle.std.specs.Prelude.{Contains, map, bit_and}
-use Rattle.std.proofs.lemmas.Bool.{and_parts, and_from}
+use Rattle.std.proofs.lemmas.Bool.{and_parts}
 use Rattle.agglo_model.specs.Axes.{coordinate}
 use Rattle.agglo_model.specs.Grid.{Grid}
 use Rattle.agglo_model.specs.PairOrder.{Threshold}
@@ -16,17 +16,13 @@ use Rattle.agglo_model.specs.JoiningLaws.{AreKids, StartsNode, JoinedStart}
 use Rattle.agglo_model.proofs.Members.{Contains-map, Contains-unmap}
 use Rattle.agglo_model.proofs.Freezing.{occurs_at, some_voxel_is}
 use Rattle.work_laws.proofs.Children.{is_inner}
-use Rattle.work_laws.proofs.ChildEdges.{both_ways}
+use Rattle.work_laws.proofs.Tests.{with_implied}
 use Rattle.work_laws.proofs.ChildFaces.{keeps_low, keeps_high, children_faces}
 use Rattle.work_laws.proofs.FaceBits.{and_faces, same_bits}
 use Rattle.work_laws.proofs.JoinedContacts.{edge_inside, inside_edge}
 use Rattle.work_laws.proofs.JoinedFaces.{gathered, gather_alike, gather_all, some_from}
 use Rattle.work_laws.proofs.KeptRegions.{region_named}
 use Rattle.work_laws.proofs.KidNames.{kid_graph, named_by, named_where, passed_region, occurs_up, frozen_named, others_stuck}
-
--- a test that implies another one is the same with it
-with_implied : (a b : Bool) → (b ≡ true → a ≡ true) → (a && b) ≡ b
-with_implied a b implies = both_ways (a && b) b (λ pass. (and_parts a b pass).1) (λ pass. and_from a b (implies pass) pass)
 
 or_alike : (l a b : Bool) → a ≡ b → (l || a) ≡ (l || b)
 or_alike l a b same = ap (λ k. l || k) same

@@ -1,6 +1,7 @@
 -- The contacts of two names in the residues of a node's children are those inside the children's cells.
-use Rattle.std.proofs.Common.{◌≡◌, ◌≢◌, ◌⊎◌, inl, inr, ℕ, suc, ◌+◌, ◌<◌, ◌≤◌, Bool, true, false, ◌&&◌, ◌||◌, List, [], ◌∷◌, length, refl, sym, ap, ◌∙◌, subst, arith}
-use Rattle.std.specs.Prelude.{Contains, map, filter}
+use Rattle.std.proofs.Common.{◌≡◌, ◌≢◌, ◌⊎◌, inl, inr, ℕ, suc, ◌+◌, ◌<◌, ◌≤◌, Bool, false, ◌&&◌, ◌||◌, List, [], ◌∷◌, length, refl, sym, ap, ◌∙◌, subst, arith}
+use Rattle.std.specs.Prelude.{Contains}
+use Rattle.std.proofs.Math.Bool.{and-false, and-or_distrib_left}
 use Rattle.std.proofs.lemmas.Bool.{cases_Bool, cases_lt}
 use Rattle.std.proofs.lemmas.Bool.Decides.{nat_tests}
 use mathlib.Core.Path.{fun_ext}
@@ -10,10 +11,12 @@ use Rattle.agglo_model.specs.PairOrder.{added}
 use Rattle.agglo_model.specs.Contacts.{are, differ, joins, lower_label, higher_label, total}
 use Rattle.agglo_model.specs.Cutting.{Chunking, IsChunking, node_count, level_of, child_count, child}
 use Rattle.agglo_model.specs.Freezing.{is_inside}
-use Rattle.agglo_model.specs.RegionGraph.{GraphEdge, RegionGraph, IsGraphOfNames, is_between, all_added, contact_in, between_inside, residue_of}
+use Rattle.agglo_model.specs.RegionGraph.{GraphEdge, RegionGraph, IsGraphOfNames, is_between, contact_in, between_inside, residue_of}
 use Rattle.agglo_model.specs.Joining.{kept_edges}
 use Rattle.agglo_model.proofs.GraphContacts.{contact_in-is, contact_in-append, joint-none}
 use Rattle.agglo_model.proofs.GraphEdges.{edge_contact, between_names}
+use Rattle.agglo_model.proofs.GraphMerges.{contact_in-swap}
+use Rattle.work_laws.proofs.Tests.{both_apart}
 use Rattle.work_laws.proofs.AddedContacts.{listed, listed-none, listed-some, listed-both, listed-fails, some_or_none}
 use Rattle.work_laws.proofs.ChildEdges.{inside_from, children_apart}
 
@@ -25,10 +28,6 @@ are_swap p q x y = grind (arith, nat_tests)
 joins_swap : (i k : Bool) (p q x y : ℕ)
     → (((i && differ p q) && are p q x y) && k) ≡ (((i && differ p q) && are p q y x) && k)
 joins_swap i k p q x y = ap (λ b. ((i && differ p q) && b) && k) (are_swap p q x y)
-
-pub contact_in-swap : (past x y : ℕ) (es : List GraphEdge) → contact_in past es x y ≡ contact_in past es y x
-contact_in-swap past x y es =
-    ap (λ f. all_added past (map (λ (e : GraphEdge). e.contact) (filter f es))) (fun_ext (λ e. are_swap e.a e.b x y))
 
 pub inside-swap : (g : Grid) (c : Chunking) (m : ℕ) (labels : List ℕ) (x y : ℕ)
     → between_inside g c m labels x y ≡ between_inside g c m labels y x
@@ -91,23 +90,11 @@ module _ (Keeps : ℕ → Type 0) (g : Grid) (c : Chunking) (m : ℕ) (labels : 
 
 -- ---- all children
 
-and_none : (a : Bool) → (a && false) ≡ false
-and_none true = refl
-and_none false = refl
-
-and_or : (a b d : Bool) → (a && (b || d)) ≡ ((a && b) || (a && d))
-and_or true b d = refl
-and_or false b d = refl
-
-both_apart : (a b d : Bool) → (b && d) ≡ false → ((a && b) && (a && d)) ≡ false
-both_apart true b d apart = apart
-both_apart false b d apart = refl
-
 pub listed-split : (past : ℕ) (g : Grid) (j p q : ℕ → Bool) → ((e : ℕ) → (p e && q e) ≡ false)
     → listed past (total g (λ e. j e && (p e || q e)))
     ≡ added (listed past (total g (λ e. j e && p e))) (listed past (total g (λ e. j e && q e)))
 listed-split past g j p q apart =
-    ap (λ f. listed past (total g f)) (fun_ext (λ e. and_or (j e) (p e) (q e)))
+    ap (λ f. listed past (total g f)) (fun_ext (λ e. and-or_distrib_left (j e) (p e) (q e)))
     ∙ listed-both past g (λ e. j e && p e) (λ e. j e && q e) (λ e. both_apart (j e) (p e) (q e) (apart e))
 
 module _ (c : Chunking) (h : IsChunking c) (m : ℕ) (node : m < node_count c) (inner : 0 < level_of c m)
@@ -120,7 +107,7 @@ module _ (c : Chunking) (h : IsChunking c) (m : ℕ) (node : m < node_count c) (
   pub kids_contact : (i : ℕ) (kids : List RegionGraph) → i + length kids ≤ child_count c m → HaveContacts i kids
       → contact_in past (kept_edges kids) x y
       ≡ listed past (total g (λ e. joins g labels x y e && inside_from c m i (length kids) e))
-  kids_contact i [] few each = sym (listed-fails past g (λ e. joins g labels x y e && false) (λ e. and_none (joins g labels x y e)))
+  kids_contact i [] few each = sym (listed-fails past g (λ e. joins g labels x y e && false) (λ e. and-false (joins g labels x y e)))
   kids_contact i (kid ∷ kids) few each =
       let here : i + 0 ≡ i = omega arith in
       let first = each 0 (omega arith) ∙ ap (λ k. listed past (between_inside g c (child c m k) labels x y)) here in

@@ -1,3 +1,4 @@
+pub mod Tests
 pub mod SameCells
 pub mod LeafGraphs
 pub mod Children

@@ -1,5 +1,6 @@
 -- Two label lists that agree in the cell of a node: the names there have the same voxels, faces and contacts.
-use Rattle.std.proofs.Common.{◌≡◌, ℕ, ◌+◌, ◌<◌, ◌==◌, Bool, true, false, ◌&&◌, List, refl, sym, ap, ◌∙◌, subst}
+use Rattle.std.proofs.Common.{◌≡◌, ℕ, ◌+◌, ◌<◌, ◌==◌, Bool, true, ◌&&◌, List, sym, ap, ◌∙◌, subst}
+use Rattle.std.proofs.Math.Bool.{and_comm}
 use Rattle.std.proofs.lemmas.Bool.{and_parts}
 use mathlib.Core.Path.{fun_ext}
 use Rattle.agglo_model.specs.Axes.{Axes, is_edge, coordinate, lower_end, higher_end}
@@ -9,22 +10,14 @@ use Rattle.agglo_model.specs.Contacts.{differ, are, joins, total}
 use Rattle.agglo_model.specs.Cutting.{Chunking, cell_low, cell_high, is_low_artificial, is_high_artificial, face_bits}
 use Rattle.agglo_model.specs.Freezing.{is_held, is_inside, is_part, some_voxel, occurs_in, touched_faces, IsFrozen}
 use Rattle.agglo_model.specs.RegionGraph.{RegionGraph, IsGraphOfNames, between_inside}
+use Rattle.work_laws.proofs.Tests.{same_where}
 
 -- the lists have the same labels in the cell of node m
 abbrev pub AgreeIn : Chunking → ℕ → List ℕ → List ℕ → Type 0
 AgreeIn c m labels others = (v : ℕ) → is_held c m v ≡ true → label_of labels v ≡ label_of others v
 
-and_same : (b x y : Bool) → (b ≡ true → x ≡ y) → (b && x) ≡ (b && y)
-and_same true x y same = same refl
-and_same false x y same = refl
-
-same_and : (b x y : Bool) → (b ≡ true → x ≡ y) → (x && b) ≡ (y && b)
-same_and true x y same = ap (λ z. z && true) (same refl)
-same_and false x y same = (none x) ∙ sym (none y)
-  where
-    none : (z : Bool) → (z && false) ≡ false
-    none true = refl
-    none false = refl
+same_and : (x y b : Bool) → (b ≡ true → x ≡ y) → (x && b) ≡ (y && b)
+same_and x y b same = and_comm x b ∙ same_where b x y same ∙ and_comm b y
 
 -- the faces that a set of voxels touches
 abbrev faces_of : Chunking → ℕ → (ℕ → Bool) → ℕ
@@ -38,7 +31,7 @@ joins_by a x y e p q = (is_edge a e && differ p q) && are p q x y
 
 module _ (c : Chunking) (m : ℕ) (labels others : List ℕ) (agree : AgreeIn c m labels others) where
   pub same_part : (x v : ℕ) → is_part c m labels x v ≡ is_part c m others x v
-  same_part x v = and_same (is_held c m v) (label_of labels v == x) (label_of others v == x)
+  same_part x v = same_where (is_held c m v) (label_of labels v == x) (label_of others v == x)
       (λ held. ap (λ y. y == x) (agree v held))
 
   pub same_occurs : (x : ℕ) → occurs_in c m labels x ≡ occurs_in c m others x
@@ -56,7 +49,7 @@ module _ (c : Chunking) (m : ℕ) (labels others : List ℕ) (agree : AgreeIn c 
 
   same_joins : (g : Grid) → c.axes ≡ g.axes → (x y e : ℕ)
       → (joins g labels x y e && is_inside c m e) ≡ (joins g others x y e && is_inside c m e)
-  same_joins g axes x y e = same_and (is_inside c m e) (joins g labels x y e) (joins g others x y e) (λ inside.
+  same_joins g axes x y e = same_and (joins g labels x y e) (joins g others x y e) (is_inside c m e) (λ inside.
       let ends = and_parts (is_held c m (lower_end c.axes e)) (is_held c m (higher_end e)) inside in
       let low : label_of labels (lower_end g.axes e) ≡ label_of others (lower_end g.axes e) =
       subst (λ a. label_of labels (lower_end a e) ≡ label_of others (lower_end a e)) axes (agree (lower_end c.axes e) ends.0) in
