@@ -3,12 +3,10 @@ use Rattle.std.proofs.Common.{◌≡◌, ◌≢◌, ◌⊎◌, inl, inr, ℕ, su
 use Rattle.std.specs.Prelude.{Contains}
 use Rattle.std.proofs.Math.Bool.{and-false, and-or_distrib_left}
 use Rattle.std.proofs.lemmas.Bool.{cases_Bool, cases_lt}
-use Rattle.std.proofs.lemmas.Bool.Decides.{nat_tests}
 use mathlib.Core.Path.{fun_ext}
-use Rattle.agglo_model.specs.Axes.{is_edge}
 use Rattle.agglo_model.specs.Grid.{Grid}
 use Rattle.agglo_model.specs.PairOrder.{added}
-use Rattle.agglo_model.specs.Contacts.{are, differ, joins, lower_label, higher_label, total}
+use Rattle.agglo_model.specs.Contacts.{joins, total}
 use Rattle.agglo_model.specs.Cutting.{Chunking, IsChunking, node_count, level_of, child_count, child}
 use Rattle.agglo_model.specs.Freezing.{is_inside}
 use Rattle.agglo_model.specs.RegionGraph.{GraphEdge, RegionGraph, IsGraphOfNames, is_between, contact_in, between_inside, residue_of}
@@ -16,23 +14,10 @@ use Rattle.agglo_model.specs.Joining.{kept_edges}
 use Rattle.agglo_model.proofs.GraphContacts.{contact_in-is, contact_in-append, joint-none}
 use Rattle.agglo_model.proofs.GraphEdges.{edge_contact, between_names}
 use Rattle.agglo_model.proofs.GraphMerges.{contact_in-swap}
+use Rattle.work_laws.proofs.InsideContacts.{inside-swap}
 use Rattle.work_laws.proofs.Tests.{both_apart}
 use Rattle.work_laws.proofs.AddedContacts.{listed, listed-none, listed-some, listed-both, listed-fails, some_or_none}
 use Rattle.work_laws.proofs.ChildEdges.{inside_from, children_apart}
-
--- ---- the order of the names doesn't matter
-
-are_swap : (p q x y : ℕ) → are p q x y ≡ are p q y x
-are_swap p q x y = grind (arith, nat_tests)
-
-joins_swap : (i k : Bool) (p q x y : ℕ)
-    → (((i && differ p q) && are p q x y) && k) ≡ (((i && differ p q) && are p q y x) && k)
-joins_swap i k p q x y = ap (λ b. ((i && differ p q) && b) && k) (are_swap p q x y)
-
-pub inside-swap : (g : Grid) (c : Chunking) (m : ℕ) (labels : List ℕ) (x y : ℕ)
-    → between_inside g c m labels x y ≡ between_inside g c m labels y x
-inside-swap g c m labels x y = ap (total g) (fun_ext (λ e.
-    joins_swap (is_edge g.axes e) (is_inside c m e) (lower_label g labels e) (higher_label g labels e) x y))
 
 ordered_names : (x y a b : ℕ) → x < y → a < b → ((a ≡ x) × (b ≡ y)) ⊎ ((a ≡ y) × (b ≡ x)) → (a ≡ x) × (b ≡ y)
 ordered_names x y a b xy ab (inl names) = names

@@ -14,3 +14,10 @@ pub mod JoinedFaces
 pub mod ChildFaces
 pub mod JoinedGraphs
 pub mod Turns
+pub mod RenamedJoins
+pub mod FaceSets
+pub mod InsideContacts
+pub mod RenamedNames
+pub mod NodeSteps
+pub mod NodeAfter
+pub mod SettledNodes

@@ -14,7 +14,9 @@ use Rattle.agglo_model.specs.Joining.{is_named, kept_regions}
 use Rattle.agglo_model.specs.JoiningLaws.{StartsNode}
 use Rattle.agglo_model.proofs.Levels.{first_node_le}
 use Rattle.agglo_model.proofs.Works.{labels_after-is, connected_before}
-use Rattle.work_laws.specs.Turns.{IsWorkOf, IsTurn, NodesTakeTurns, LeavesTakeTurns, ParentsTakeTurns, ResiduesStay}
+use Rattle.work_laws.specs.SettlingLaws.{IsWorkOf}
+use Rattle.work_laws.specs.Turns.{IsTurn, NodesTakeTurns, LeavesTakeTurns, ParentsTakeTurns, ResiduesStay}
+use Rattle.work_laws.proofs.SettledNodes.{settling_is_work}
 use Rattle.work_laws.proofs.LeafGraphs.{leaves_start}
 use Rattle.work_laws.proofs.JoinedGraphs.{joined_start}
 
@@ -75,10 +77,19 @@ module _ (g : Grid) (t : Threshold) (c : Chunking) (labels : List ℕ) (works : 
       }
 
 pub nodes_take_turns : NodesTakeTurns
-nodes_take_turns settling keeps g t c labels works on m worked node graph starts merges left settles =
+nodes_take_turns keeps g t c labels works on m worked node graph starts merges left settles =
     turn g t c labels works on m worked node merges left
-    (settling keeps g t c m (labels_before labels works m) graph merges left on.cutting on.axes node
-    (connected_before g t c labels works on m (omega arith)) starts settles)
+    (settling_is_work keeps g t c m (labels_before labels works m) graph merges left (record {
+      place = record {
+        cutting = on.cutting;
+        axes = on.axes;
+        node = node;
+        connected = connected_before g t c labels works on m (omega arith);
+      };
+      graph_is = starts.graph_is;
+      frozen_kept = starts.frozen;
+      others_stuck = λ x y some occurs unkept touching. starts.others x some occurs unkept y touching;
+    }) settles)
 
 -- all names are kept
 all_kept : (g : Grid) (t : Threshold) (c : Chunking) (m : ℕ) (labels : List ℕ) (graph : RegionGraph)
@@ -103,14 +114,14 @@ leaf_below : (c : Chunking) (m : ℕ) → m < cells_at c 0 → m < node_count c
 leaf_below c m below = omega (arith, first_node_le c 1 (suc (last_level c)) (omega arith))
 
 pub leaves_take_turns : LeavesTakeTurns
-leaves_take_turns settling g t c labels works on m worked leaf graph is merges left settles =
-    nodes_take_turns settling (λ _. true) g t c labels works on m worked (leaf_below c m leaf) graph
+leaves_take_turns g t c labels works on m worked leaf graph is merges left settles =
+    nodes_take_turns (λ _. true) g t c labels works on m worked (leaf_below c m leaf) graph
     (all_kept g t c m (labels_before labels works m) graph (leaves_start g t c labels works on m worked leaf graph is))
     merges left settles
 
 pub parents_take_turns : ParentsTakeTurns
-parents_take_turns settling g t c labels works on m worked node some kids are_kids graph joined merges left settles =
-    nodes_take_turns settling (is_named (kept_regions c m 0 kids)) g t c labels works on m worked node graph
+parents_take_turns g t c labels works on m worked node some kids are_kids graph joined merges left settles =
+    nodes_take_turns (is_named (kept_regions c m 0 kids)) g t c labels works on m worked node graph
     (joined_start g t c labels works on m worked node some kids are_kids graph joined) merges left settles
 
 pub residues_stay : ResiduesStay

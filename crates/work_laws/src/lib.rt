@@ -5,6 +5,7 @@
 #![tactic(auto)]
 
 ghost use Rattle.agglo_model.specs.JoiningLaws.{JoinedStart, LeavesStart};
+ghost use Rattle.work_laws.specs.SettlingLaws.{SettlingCellIsWork, SettlingIsWork, SettlingJoinedIsWork};
 ghost use Rattle.work_laws.specs.Turns.{LeavesTakeTurns, NodesTakeTurns, ParentsTakeTurns, ResiduesStay};
 
 /// The graph of a leaf's cell under the labels from the start is that under the labels before its work.
@@ -18,8 +19,23 @@ pub fn joined_start()
     ensures { JoinedStart }
 {}
 
-/// Where settling a graph is the work of its node, settling one that the next node starts from adds that
-/// node's work to those before it, and leaves its residue.
+/// Settling the graph of a node's names is the work of the node, where a test tells the names that are kept.
+pub fn settling_is_the_work()
+    ensures { SettlingIsWork }
+{}
+
+/// So it is where all names of the cell are kept.
+pub fn settling_a_cell_is_the_work()
+    ensures { SettlingCellIsWork }
+{}
+
+/// And where the names of several graphs are kept.
+pub fn settling_residues_is_the_work()
+    ensures { SettlingJoinedIsWork }
+{}
+
+/// Settling a graph that the next node starts from adds that node's work to those before it, and leaves its
+/// residue.
 pub fn nodes_take_turns()
     ensures { NodesTakeTurns }
 {}
