@@ -1,0 +1,2 @@
+pub mod SettlingLaws
+pub mod Turns
