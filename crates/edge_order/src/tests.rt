@@ -1,6 +1,6 @@
-use crate::{Step, best_edge, best_steps, stronger};
+use crate::{Step, best_edge, best_step, best_steps, cell_steps, stronger};
 use agglo_model::Memory;
-use seg_base::{DimFault, Dims};
+use seg_base::{Cell, DimFault, Dims};
 use std::alloc::AllocError;
 use volume_file::{Head, Volume};
 
@@ -68,6 +68,24 @@ fn steps_lead_along_the_best_edges(rt: HostRuntime) -> Result<(), Trouble> {
     assert_eq!(rt;
         steps.as_slice(),
         [Step::OnX, Step::BackX, Step::Stay, Step::Stay].as_slice()
+    );
+    Ok(())
+}
+
+#[test]
+fn steps_of_a_cell_lead_out_of_it(rt: HostRuntime) -> Result<(), Trouble> {
+    let vol = row(&rt, &[0, 200, 50, 180])?;
+    assert!(rt; vol.dims().nx() == 4 && vol.dims().ny() == 1 && vol.dims().nz() == 1);
+    let cell = Cell {
+        lo: [1, 0, 0],
+        hi: [3, 1, 1],
+    };
+    let steps = cell_steps(rt.alloc(), &vol, 1, &cell).map_err(Trouble::Memory)?;
+    assert_eq!(rt; steps.as_slice(), [Step::BackX, Step::OnX].as_slice());
+    assert!(rt; vol.dims().voxels() == 4);
+    assert_eq!(rt;
+        (best_step(&vol, 1, 2), best_step(&vol, 181, 2)),
+        (Step::OnX, Step::Stay)
     );
     Ok(())
 }

@@ -1,6 +1,6 @@
-use crate::whole_basins;
+use crate::{End, climb, whole_basins};
 use agglo_model::Memory;
-use seg_base::{DimFault, Dims};
+use seg_base::{Cell, DimFault, Dims};
 use std::alloc::AllocError;
 use volume_file::{Head, Volume};
 
@@ -10,6 +10,7 @@ enum Trouble {
     Memory(Memory),
     Alloc(AllocError),
     Length,
+    Cell,
 }
 
 /// A flat volume of these axes, whose voxels have these bytes on x and on y.
@@ -131,5 +132,76 @@ fn a_long_ascent_ends_at_the_top(rt: HostRuntime) -> Result<(), Trouble> {
     let vol = sheet(&rt, 250, 1, &bytes)?;
     let labels = whole_basins(rt.alloc(), &vol, 1).map_err(Trouble::Memory)?;
     assert!(rt; labels.list().iter().all(|label| *label == 249));
+    Ok(())
+}
+
+/// The ends of the voxels of a row from `from` up to, but not including, `to`.
+fn ends_of(
+    rt: &HostRuntime,
+    vol: &Volume,
+    low: u8,
+    from: u32,
+    to: u32,
+) -> Result<Vec<End>, Trouble> {
+    if from >= to || to > vol.dims().nx() {
+        return Err(Trouble::Cell);
+    }
+    let cell = Cell {
+        lo: [from, 0, 0],
+        hi: [to, 1, 1],
+    };
+    let ends = climb(rt.alloc(), vol, low, &cell).map_err(Trouble::Memory)?;
+    let mut list = Vec::new(rt.alloc());
+    for i in 0..ends.grid().voxels() {
+        list.push(ends.get(i)).map_err(|_| Trouble::Length)?;
+    }
+    Ok(list)
+}
+
+#[test]
+fn an_ascent_leaves_a_cell_through_its_face(rt: HostRuntime) -> Result<(), Trouble> {
+    let vol = sheet(&rt, 4, 1, &[[0, 0], [100, 0], [100, 0], [100, 0]])?;
+    let ends = ends_of(&rt, &vol, 1, 2, 4)?;
+    assert_eq!(rt; ends.as_slice(), [End::Exit(1), End::Exit(1)].as_slice());
+    let first = ends_of(&rt, &vol, 1, 0, 1)?;
+    assert_eq!(rt;
+        first.as_slice(),
+        [End::Root(1)].as_slice(),
+        "its partner lies outside"
+    );
+    let none = ends_of(&rt, &vol, 101, 1, 3)?;
+    assert_eq!(rt;
+        none.as_slice(),
+        [End::Background, End::Background].as_slice()
+    );
+    Ok(())
+}
+
+#[test]
+fn a_root_in_a_cell_has_its_name_in_the_volume(rt: HostRuntime) -> Result<(), Trouble> {
+    let bytes = [
+        [0, 0],
+        [200, 0],
+        [100, 0],
+        [200, 0],
+        [90, 0],
+        [200, 0],
+        [100, 0],
+        [200, 0],
+    ];
+    let vol = sheet(&rt, 8, 1, &bytes)?;
+    let ends = ends_of(&rt, &vol, 1, 0, 6)?;
+    let wanted = [
+        End::Root(1),
+        End::Root(1),
+        End::Root(3),
+        End::Root(3),
+        End::Root(5),
+        End::Root(5),
+    ];
+    assert_eq!(rt; ends.as_slice(), wanted.as_slice());
+    let last = ends_of(&rt, &vol, 1, 3, 7)?;
+    let wanted = [End::Root(3), End::Root(5), End::Root(5), End::Root(7)];
+    assert_eq!(rt; last.as_slice(), wanted.as_slice());
     Ok(())
 }
