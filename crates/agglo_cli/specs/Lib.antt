@@ -1,8 +1,8 @@
-pub mod Words
 pub mod FileDesk
-pub mod Texts
 pub mod Reading
 pub mod Writing
+pub mod Shown
+pub mod Answers
+pub mod Flaws
 pub mod Run
-pub mod Refusal
-pub mod Outcome
+pub mod Headline

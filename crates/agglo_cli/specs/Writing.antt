@@ -1,42 +1,51 @@
--- How a run of `basins` writes its answer: the label file, then the note.
-use Rattle.std.specs.Prelude.{◌≡◌, ℕ, ◌≤◌, ◌⊎◌, List, [], ◌∷◌, ◌++◌, length, take, Option, IfSome}
-use Rattle.std.specs.Option.{option_map}
-use Rattle.agglo_model.specs.Count.{Rose}
-use Rattle.seg_io.specs.Desk.{DeskState}
-use Rattle.seg_io.specs.declared.port.Port.TheVariants.{Labels}
+-- How a run writes its answer: file after file, and then the note.
+use Rattle.std.specs.Prelude.{◌≡◌, ℕ, ◌⊎◌, List, [], ◌∷◌}
+use Rattle.seg_io.specs.Desk.{DeskState, appended, OpensOutput, FailsToOpenOutput, FailsAfterWriting}
+use Rattle.seg_io.specs.declared.port.Port.{Port}
+use Rattle.seg_io.specs.declared.port.Port.TheVariants.{Note}
 
--- The port Labels was opened under this name and has these bytes, the note has gained those, and
--- nothing else changed.
-pub record Wrote (name bytes gained : List ℕ) (old new : DeskState) : Type 0 where
-  pub labels : IfSome new.labels (λ written. written ≡ bytes)
-  pub note : new.note ≡ option_map (λ written. written ++ gained) old.note
-  pub opened : new.opened ≡ old.opened ++ record { port = Labels; name = name } ∷ []
-  pub after : new ≡ record old {
-    output_faults = new.output_faults;
-    labels = new.labels;
-    note = new.note;
-    opened = new.opened;
-  }
+-- a file to be written: its port, the name that this is opened under, and its bytes
+pub record Output : Type 0 where
+  pub port : Port
+  pub name : List ℕ
+  pub bytes : List ℕ
 
--- The answer was written: the whole file, the whole note, with no fault.
-pub record WritesAnswer (name file note : List ℕ) (old new : DeskState) : Type 0 where
-  pub wrote : Wrote name file note old new
-  pub no_fault : new.output_faults ≡ old.output_faults
+-- what a run has to write: files in order, and a note
+pub record Answer : Type 0 where
+  pub outputs : List Output
+  pub note : List ℕ
 
--- No port was opened, and nothing written.
-abbrev pub WroteNothing : DeskState → DeskState → Type 0
-WroteNothing old new = new ≡ record old { output_faults = new.output_faults }
+-- The port was opened under the name, and then all bytes were written on it.
+pub record WritesFile (output : Output) (old new : DeskState) : Type 0 where
+  pub begun : DeskState
+  pub opened : OpensOutput output.port output.name old begun
+  pub wrote : new ≡ appended output.port output.bytes begun
 
--- The port was opened, a prefix of the file was written, and nothing of the note.
-abbrev pub WrotePartOfFile : List ℕ → List ℕ → DeskState → DeskState → Type 0
-WrotePartOfFile name file old new = (k : ℕ) × (k ≤ length file) × Wrote name (take k file) [] old new
+-- The port was opened under the name, and then a write failed after a prefix of the bytes.
+pub record CutsFile (output : Output) (old new : DeskState) : Type 0 where
+  pub begun : DeskState
+  pub opened : OpensOutput output.port output.name old begun
+  pub cut : FailsAfterWriting output.port output.bytes begun new
 
--- The whole file was written, and a prefix of the note.
-abbrev pub WrotePartOfNote : List ℕ → List ℕ → List ℕ → DeskState → DeskState → Type 0
-WrotePartOfNote name file note old new = (k : ℕ) × (k ≤ length note) × Wrote name file (take k note) old new
+-- One file after another was written whole, and then the note.
+abbrev pub WritesFiles : List Output → List ℕ → DeskState → DeskState → Type 0
+WritesFiles [] note old new = new ≡ appended Note note old
+WritesFiles (output ∷ others) note old new =
+    (mid : DeskState) × WritesFile output old mid × WritesFiles others note mid new
 
--- A write failed, or the opening.
-pub record StopsWriting (name file note : List ℕ) (old new : DeskState) : Type 0 where
-  pub fault : Rose old.output_faults new.output_faults
-  pub progress : WroteNothing old new ⊎ (WrotePartOfFile name file old new
-      ⊎ WrotePartOfNote name file note old new)
+abbrev pub WritesAll : Answer → DeskState → DeskState → Type 0
+WritesAll answer old new = WritesFiles answer.outputs answer.note old new
+
+-- The port could not be opened, or the file was cut.
+abbrev pub FailsInFile : Output → DeskState → DeskState → Type 0
+FailsInFile output old new = FailsToOpenOutput old new ⊎ CutsFile output old new
+
+-- The first of the files failed; or it was written whole, and what comes after it failed. The last to fail is
+-- the note.
+abbrev pub FailsInFiles : List Output → List ℕ → DeskState → DeskState → Type 0
+FailsInFiles [] note old new = FailsAfterWriting Note note old new
+FailsInFiles (output ∷ others) note old new = FailsInFile output old new
+    ⊎ ((mid : DeskState) × WritesFile output old mid × FailsInFiles others note mid new)
+
+abbrev pub StopsWriting : Answer → DeskState → DeskState → Type 0
+StopsWriting answer old new = FailsInFiles answer.outputs answer.note old new
