@@ -3,7 +3,8 @@ use Rattle.std.proofs.Common.{◌≡◌, ◌≢◌, ℕ, zero, suc, List, [], �
 use Rattle.std.specs.List.{flat_map}
 use denote.Ref.{Bor}
 use Rattle.std.proofs.lemmas.List.{get_or_default}
-use Rattle.command_words.specs.Words.{Given, given_words, AreOptionsOf, Task, Basins, Show, command_of, Gives, GivesBasins, GivesShow, BasinsSettings, AreNoSettings}
+use Rattle.command_words.specs.Words.{Given, given_words, AreOptionsOf, Task, Basins, Segment, Show, command_of, Gives, GivesBasins, GivesSegment, GivesShow, BasinsSettings, SegmentSettings, segment_options, AreNoSettings}
+use Rattle.command_words.specs.declared.settings.SegmentValues.{SegmentValues}
 use Rattle.command_words.specs.declared.job.Job.{Job}
 use Rattle.command_words.specs.declared.job.WordsFault.{WordsFault}
 use Rattle.command_words.specs.declared.job.WordsFault.TheVariants.{NoSettings, Memory}
@@ -21,6 +22,16 @@ basins_known (suc zero) d lt = (1, omega arith, refl)
 basins_known (suc (suc zero)) d lt = (3, omega arith, refl)
 basins_known (suc (suc (suc k))) d lt = absurd (omega arith)
 
+segment_known : All (Contains option_names) segment_options
+segment_known zero d lt = (0, omega arith, refl)
+segment_known (suc zero) d lt = (1, omega arith, refl)
+segment_known (suc (suc zero)) d lt = (2, omega arith, refl)
+segment_known (suc (suc (suc zero))) d lt = (3, omega arith, refl)
+segment_known (suc (suc (suc (suc zero)))) d lt = (4, omega arith, refl)
+segment_known (suc (suc (suc (suc (suc zero))))) d lt = (5, omega arith, refl)
+segment_known (suc (suc (suc (suc (suc (suc zero)))))) d lt = (6, omega arith, refl)
+segment_known (suc (suc (suc (suc (suc (suc (suc k))))))) d lt = absurd (omega arith)
+
 show_known : All (Contains option_names) (codes "tree" ∷ [])
 show_known zero d lt = (2, omega arith, refl)
 show_known (suc k) d lt = absurd (omega arith)
@@ -33,6 +44,7 @@ known_from names given known are = record {
 
 gives_known : (given : List Given) (task : Task) → Gives given task → AreKnownOnce given
 gives_known given (Basins settings) gives = known_from _ given basins_known gives.options_are
+gives_known given (Segment settings) gives = known_from _ given segment_known gives.options_are
 gives_known given (Show tree) gives = known_from _ given show_known gives.options_are
 
 -- ---- the values in one reading are those in another
@@ -114,9 +126,39 @@ memory_outcome (Err fault) command given is task asked = subst (RefusesOptions c
 pub basins_alone : (given : List Given) → ((settings : BasinsSettings) → ¬ (GivesBasins given settings)) → (task : Task)
     → ¬ (IsAsked (codes "basins") given task)
 basins_alone given none (Basins settings) asked = none settings asked.gives
+basins_alone given none (Segment settings) asked = cc asked.command_is
 basins_alone given none (Show tree) asked = cc asked.command_is
+
+pub segment_alone : (given : List Given) → ((settings : SegmentSettings) → ¬ (GivesSegment given settings)) → (task : Task)
+    → ¬ (IsAsked (codes "segment") given task)
+segment_alone given none (Basins settings) asked = cc asked.command_is
+segment_alone given none (Segment settings) asked = none settings asked.gives
+segment_alone given none (Show tree) asked = cc asked.command_is
 
 pub show_alone : (given : List Given) → ((tree : List ℕ) → ¬ (GivesShow given tree)) → (task : Task)
     → ¬ (IsAsked (codes "show") given task)
 show_alone given none (Basins settings) asked = cc asked.command_is
+show_alone given none (Segment settings) asked = cc asked.command_is
 show_alone given none (Show tree) asked = none tree asked.gives
+
+-- ---- the settings of `segment`
+
+abbrev pub settings_of : SegmentValues → SegmentSettings
+settings_of values = record {
+  volume = values.volume.now;
+  labels = values.labels.now;
+  tree = values.tree.now;
+  low = values.low;
+  threshold = values.threshold;
+  chunk = values.chunk;
+  workers = values.workers;
+}
+
+-- copies of the names say the same
+pub names_copied : (given : List Given) (settings : SegmentSettings) (volume labels tree : List ℕ) → volume ≡ settings.volume
+    → labels ≡ settings.labels → tree ≡ settings.tree → GivesSegment given settings
+    → GivesSegment given (record settings { volume = volume; labels = labels; tree = tree })
+names_copied given settings volume labels tree e f g gives =
+    let copied : settings ≡ record settings { volume = volume; labels = labels; tree = tree } =
+    (λ i. record settings { volume = sym e i; labels = sym f i; tree = sym g i }) in
+    subst (GivesSegment given) copied gives

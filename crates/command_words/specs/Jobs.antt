@@ -1,6 +1,6 @@
 -- What the words of the command line ask for, as the program's own jobs.
 use Rattle.std.specs.Prelude.{ℕ, List, string_bytes}
-use Rattle.command_words.specs.Words.{Task, Basins, Show, Spells, AreNoSettings}
+use Rattle.command_words.specs.Words.{Task, Basins, Segment, Show, Spells, AreNoSettings}
 use Rattle.command_words.specs.declared.job.Job.{Job}
 use Rattle.command_words.specs.declared.job.Job.TheVariants as jobs
 use Rattle.command_words.specs.declared.job.WordsFault.{WordsFault}
@@ -10,6 +10,15 @@ use Rattle.command_words.specs.declared.job.WordsFault.TheVariants.{NoSettings, 
 abbrev pub task_of : Job → Task
 task_of (jobs.Basins volume labels low) =
     Basins (record { volume = string_bytes volume; labels = string_bytes labels; low = low })
+task_of (jobs.Segment volume labels tree low threshold chunk workers) = Segment (record {
+  volume = string_bytes volume;
+  labels = string_bytes labels;
+  tree = string_bytes tree;
+  low = low;
+  threshold = threshold;
+  chunk = chunk;
+  workers = workers;
+})
 task_of (jobs.Show tree) = Show (string_bytes tree)
 
 -- the words spell this job

@@ -139,16 +139,19 @@ pub record GivesShow (options : List Given) (tree : List ℕ) : Type 0 where
 -- what words ask for
 pub data Task : Type 0 where
   Basins : BasinsSettings → Task
+  Segment : SegmentSettings → Task
   Show : List ℕ → Task
 
 -- the command word
 abbrev pub command_of : Task → List ℕ
 command_of (Basins settings) = codes "basins"
+command_of (Segment settings) = codes "segment"
 command_of (Show tree) = codes "show"
 
 -- what follows it
 abbrev pub Gives : List Given → Task → Type 0
 Gives options (Basins settings) = GivesBasins options settings
+Gives options (Segment settings) = GivesSegment options settings
 Gives options (Show tree) = GivesShow options tree
 
 -- The words are settings, and ask for this: the command word, and then its options one after another.

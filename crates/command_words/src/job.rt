@@ -1,3 +1,4 @@
+use mean_fraction::Threshold;
 use std::alloc::AllocError;
 use thiserror::Error;
 
@@ -9,6 +10,17 @@ pub enum Job {
         volume: String,
         labels: String,
         low: u8,
+    },
+    /// Cut a volume into chunks of these lengths on x, y and z, merge its regions in so many threads, and
+    /// write the label file and the merge tree file.
+    Segment {
+        volume: String,
+        labels: String,
+        tree: String,
+        low: u8,
+        threshold: Threshold,
+        chunk: [u32; 3],
+        workers: u32,
     },
     /// Print what a merge tree file holds.
     Show {

@@ -14,5 +14,4 @@ mod words;
 
 pub use job::{Job, WordsFault};
 pub use options::{OptionName, Options, read_options};
-pub use settings::{SegmentValues, segment_values};
 pub use words::read_words;

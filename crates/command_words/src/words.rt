@@ -5,7 +5,7 @@ ghost use Rattle.command_words.specs.Texts.{texts};
 
 use crate::job::{Job, WordsFault};
 use crate::options::{Options, read_options};
-use crate::settings::{basins_values, show_values};
+use crate::settings::{basins_values, segment_values, show_values};
 use std::alloc::Global;
 
 /// What the words after the program's name ask for. Words that are no settings are refused without
@@ -28,6 +28,7 @@ fn read_command(alloc: Global, command: &str, options: &Options<'_>) -> Result<J
 {
     match command {
         "basins" => read_basins(alloc, options),
+        "segment" => read_segment(alloc, options),
         "show" => read_show(alloc, options),
         _ => Err(WordsFault::NoSettings),
     }
@@ -45,6 +46,26 @@ fn read_basins(alloc: Global, options: &Options<'_>) -> Result<Job, WordsFault>
         volume,
         labels,
         low: values.low,
+    })
+}
+
+fn read_segment(alloc: Global, options: &Options<'_>) -> Result<Job, WordsFault>
+    ensures { MakesJob (codes "segment") options.now.values result }
+{
+    let Some(values) = segment_values(options) else {
+        return Err(WordsFault::NoSettings);
+    };
+    let volume = String::from_str(alloc, values.volume)?;
+    let labels = String::from_str(alloc, values.labels)?;
+    let tree = String::from_str(alloc, values.tree)?;
+    Ok(Job::Segment {
+        volume,
+        labels,
+        tree,
+        low: values.low,
+        threshold: values.threshold,
+        chunk: values.chunk,
+        workers: values.workers,
     })
 }
 
