@@ -2,7 +2,7 @@
 use Rattle.std.proofs.Common.{◌≡◌, ◌≢◌, ℕ, suc, List, [], ◌∷◌, ◌++◌, get_or, All, refl, sym, ap, ◌∙◌, subst, append_assoc, arith}
 use Rattle.std.specs.Char.{IsAsciiDigit}
 use Rattle.agglo_model.specs.PairOrder.{Threshold}
-use Rattle.command_words.specs.Words.{IsNumber, IsFraction, AreSizes}
+use Rattle.command_words.specs.Words.{IsNumber, IsFraction, AreSizes, digits_number}
 use Rattle.command_words.specs.Parts.{IsWithout}
 
 -- a text of digits is without any other byte
@@ -114,3 +114,20 @@ sizes_word word x others y z parts rest = parts ∙ ap (λ o. x ++ 44 ∷ o) res
     ∙ sym (append_assoc ((x ++ 44 ∷ []) ++ y) (44 ∷ []) z
     ∙ append_assoc (x ++ 44 ∷ []) y (44 ∷ z)
     ∙ middle 44 x (y ++ 44 ∷ z))
+
+-- ---- each says one thing
+
+pub fraction_once : (word : List ℕ) (t u : Threshold) → IsFraction word t → IsFraction word u → t ≡ u
+fraction_once word t u f g =
+    let parts = fraction_parts word f.above f.below u (fraction_cut word t f) (fraction_without word t f) g in
+    let p : t.p ≡ u.p = sym f.p_is ∙ ap digits_number (sym parts.0) ∙ g.p_is in
+    let q : t.q ≡ u.q = sym f.q_is ∙ ap digits_number (sym parts.1) ∙ g.q_is in
+    λ i. record { p = p i; q = q i }
+
+pub sizes_once : (word sizes others : List ℕ) → AreSizes word sizes → AreSizes word others → sizes ≡ others
+sizes_once word sizes others s t =
+    let same = sizes_all word s.x (s.y ++ 44 ∷ s.z) s.y s.z others (sizes_first word sizes s)
+    (digits_without 44 s.x not_comma s.x_number.digits) refl (digits_without 44 s.y not_comma s.y_number.digits) t in
+    s.sizes_are
+    ∙ (λ i. digits_number (sym same.at_x i) ∷ digits_number (sym same.at_y i) ∷ digits_number (sym same.at_z i) ∷ [])
+    ∙ sym t.sizes_are

@@ -6,3 +6,4 @@ pub mod OneReading
 pub mod GivenValues
 pub mod OptionsOf
 pub mod WholeWords
+pub mod OneTask

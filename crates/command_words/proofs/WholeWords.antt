@@ -42,7 +42,7 @@ known_from names given known are = record {
   once = are.once;
 }
 
-gives_known : (given : List Given) (task : Task) → Gives given task → AreKnownOnce given
+pub gives_known : (given : List Given) (task : Task) → Gives given task → AreKnownOnce given
 gives_known given (Basins settings) gives = known_from _ given basins_known gives.options_are
 gives_known given (Segment settings) gives = known_from _ given segment_known gives.options_are
 gives_known given (Show tree) gives = known_from _ given show_known gives.options_are
@@ -68,10 +68,10 @@ slots_same given options values same known slots = record {
 
 -- ---- words
 
-head_is : (x y : List ℕ) (xs ys : List (List ℕ)) → x ∷ xs ≡ y ∷ ys → x ≡ y
+pub head_is : (x y : List ℕ) (xs ys : List (List ℕ)) → x ∷ xs ≡ y ∷ ys → x ≡ y
 head_is x y xs ys e = cc
 
-tail_is : (x y : List ℕ) (xs ys : List (List ℕ)) → x ∷ xs ≡ y ∷ ys → xs ≡ ys
+pub tail_is : (x y : List ℕ) (xs ys : List (List ℕ)) → x ∷ xs ≡ y ∷ ys → xs ≡ ys
 tail_is x y xs ys e = cc
 
 pub no_words_spell : AreNoSettings []

@@ -163,3 +163,12 @@ pub record Spells (words : List (List ℕ)) (task : Task) : Type 0 where
 -- the words are no settings of any command
 abbrev pub AreNoSettings : List (List ℕ) → Type 0
 AreNoSettings words = (task : Task) → ¬ (Spells words task)
+
+-- words spell one task at most
+abbrev pub OneTask : Type 0
+OneTask = (words : List (List ℕ)) (a b : Task) → Spells words a → Spells words b → a ≡ b
+
+-- the sizes of leaves that words spell are not 0
+abbrev pub SizesAreSome : Type 0
+SizesAreSome = (words : List (List ℕ)) (settings : SegmentSettings) → Spells words (Segment settings)
+    → All (λ size. 0 < size) settings.chunk

@@ -5,6 +5,7 @@
 
 pub mod examples;
 mod job;
+pub mod laws;
 mod options;
 mod settings;
 #[cfg(test)]
