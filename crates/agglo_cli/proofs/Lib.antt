@@ -1,3 +1,4 @@
-mod Explained
 mod ReadFile
+mod CutVolumes
+mod Trees
 mod Written

@@ -1,15 +1,19 @@
--- The states of a desk whose input is opened and then read as a volume.
-use Rattle.std.proofs.Common.{◌≡◌, ◌≢◌, ℕ, Bool, true, List, [], drop, Option, Some, None, IsSome, IfSome, MatchOption, refl, sym, ap, subst, ◌∙◌}
+-- The states of a desk whose input is opened and then read.
+use Rattle.std.proofs.Common.{◌≡◌, ℕ, Bool, true, List, [], drop, Option, Some, None, IsSome, IfSome, MatchOption, refl, sym, ap, subst, ◌∙◌}
 use Rattle.std.specs.Option.{option_map, option_and_then}
 use Rattle.agglo_model.specs.Count.{Rose}
 use Rattle.agglo_model.specs.Grid.{Grid}
-use Rattle.agglo_model.specs.VolumeFile.{volume_flaw, volume_in}
+use Rattle.agglo_model.specs.VolumeFile.{VolumeFlaw, volume_flaw, volume_in}
 use Rattle.seg_io.specs.Desk.{DeskState, File, file_named, taken, OpensInput, FailsToOpenInput, FailsAfterReading}
 use Rattle.volume_file.specs.declared.fault.VolumeFault.{VolumeFault}
 use Rattle.volume_file.specs.declared.fault.VolumeFault.TheVariants.{ShortHeader, Magic, Channels, Reserved, AxisZero, AxisLarge, TooMany, Truncated, Trailing, Read, Memory}
 use Rattle.volume_file.specs.Fault.{fault_of}
-use Rattle.volume_file.specs.Reading.{TakesSome, emptied, ReadsVolume, FindsBadVolume, FailsToReadVolume}
-use Rattle.agglo_cli.specs.Reading.{file_of, HasFile, OnlyInputChanges, MissesStay, ReadsFile, FindsFlaw, FailsToReadFile, LacksMemory}
+use Rattle.volume_file.specs.Reading.{ReadsVolume, FindsBadVolume, FailsToReadVolume}
+use Rattle.refusals.specs.declared.refusal.Refusal.TheVariants.{Volume}
+use Rattle.refusals.specs.Refusal.{of_volume}
+use Rattle.agglo_cli.specs.Reading.{file_of, OnlyInputChanges, OpensFile, ReadsFile, FailsToReadFile}
+use Rattle.agglo_cli.specs.Answers.{IsVolumeFile}
+use Rattle.agglo_cli.specs.Flaws.{volume_refusal, basins_refusal, RefusesInput}
 
 -- what holds of the input that was opened holds of the file
 of_file : (name : List ℕ) (files : Option (List File)) (input : Option (List ℕ)) (P : List ℕ → Type 0)
@@ -18,10 +22,14 @@ of_file : (name : List ℕ) (files : Option (List File)) (input : Option (List �
 of_file name None input P h p = tt
 of_file name (Some fs) input P h p = subst (λ (i : Option (List ℕ)). IfSome i P) h p
 
-nothing_left : (input left : Option (List ℕ)) → left ≡ option_map (λ (bytes : List ℕ). []) input
-    → IfSome input (λ bytes. left ≡ Some [])
-nothing_left None left e = tt
-nothing_left (Some bytes) left e = e
+nothing_left : (name : List ℕ) (files : Option (List File)) (input left : Option (List ℕ))
+    → IfSome files (λ fs. input ≡ file_named fs name) → left ≡ option_map (λ (bytes : List ℕ). []) input
+    → IfSome (option_and_then (λ fs. file_named fs name) files) (λ _. left ≡ Some [])
+nothing_left name files input left h e = of_file name files input (λ _. left ≡ Some []) h (by_input input e)
+  where
+    by_input : (i : Option (List ℕ)) → left ≡ option_map (λ (bytes : List ℕ). []) i → IfSome i (λ _. left ≡ Some [])
+    by_input None e = tt
+    by_input (Some bytes) e = e
 
 -- a state that differs in its input alone
 input_alone : (s t u : DeskState) (input : Option (List ℕ)) → t ≡ record s { has_input = true; input = t.input }
@@ -31,27 +39,37 @@ input_alone s t u input e f =
     f ∙ ap (λ (z : DeskState). record z { input = input }) e in
     g ∙ ap (λ (i : Option (List ℕ)). record s { has_input = true; input = i }) (sym (ap (λ (z : DeskState). z.input) g))
 
-pub reads_file : (name : List ℕ) (volume : Grid) (s t u : DeskState) → OpensInput name s t → ReadsVolume volume t u
-    → ReadsFile name volume s u
-reads_file name volume s t u o r = record {
+-- ---- two facts about the same bytes, or one that follows from another
+
+pub if_some : (o : Option (List ℕ)) (P Q : List ℕ → Type 0) → ((bytes : List ℕ) → P bytes → Q bytes) → IfSome o P → IfSome o Q
+if_some None P Q f h = tt
+if_some (Some bytes) P Q f h = f bytes h
+
+pub if_both : (o : Option (List ℕ)) (P Q R : List ℕ → Type 0) → ((bytes : List ℕ) → P bytes → Q bytes → R bytes)
+    → IfSome o P → IfSome o Q → IfSome o R
+if_both None P Q R f h k = tt
+if_both (Some bytes) P Q R f h k = f bytes h k
+
+pub any_bytes : (o : Option (List ℕ)) → IfSome o (λ _. Unit {0})
+any_bytes None = tt
+any_bytes (Some bytes) = tt
+
+-- ---- files
+
+pub opens_file : (name : List ℕ) (Are : List ℕ → Type 0) (s t u : DeskState) (input : Option (List ℕ)) → OpensInput name s t
+    → IfSome t.input Are → u ≡ record t { input = input } → OpensFile name Are s u
+opens_file name Are s t u input o are e = record {
   found = o.found;
-  sound = of_file name s.files t.input (λ bytes. volume_flaw bytes ≡ None) o.file r.sound;
-  says = of_file name s.files t.input (λ bytes. volume ≡ volume_in bytes) o.file r.says;
-  ended = of_file name s.files t.input (λ bytes. u.input ≡ Some []) o.file
-      (nothing_left t.input u.input (ap (λ (z : DeskState). z.input) r.after));
-  after = input_alone s t u (option_map (λ (bytes : List ℕ). []) t.input) o.after r.after;
+  bytes = of_file name s.files t.input Are o.file are;
+  after = input_alone s t u input o.after e;
 }
 
-pub finds_flaw : (name : List ℕ) (fault : VolumeFault) (s t u : DeskState) → OpensInput name s t
-    → FindsBadVolume fault t u → FindsFlaw name fault s u
-finds_flaw name fault s t u o r = record {
-  found = o.found;
-  flaw = of_file name s.files t.input (λ bytes. option_map fault_of (volume_flaw bytes) ≡ Some fault) o.file r.flaw;
-  after = input_alone s t u _ o.after r.after.after;
+pub reads_file : (name : List ℕ) (Are : List ℕ → Type 0) (s t u : DeskState) → OpensInput name s t → IfSome t.input Are
+    → u ≡ record t { input = option_map (λ (bytes : List ℕ). []) t.input } → ReadsFile name Are s u
+reads_file name Are s t u o are e = record {
+  opened = opens_file name Are s t u (option_map (λ (bytes : List ℕ). []) t.input) o are e;
+  ended = nothing_left name s.files t.input u.input o.file (ap (λ (z : DeskState). z.input) e);
 }
-
-pub lacks_memory : (name : List ℕ) (s t u : DeskState) → OpensInput name s t → TakesSome t u → LacksMemory name s u
-lacks_memory name s t u o r = record { found = o.found; after = input_alone s t u _ o.after r.after }
 
 -- a fault of the device, or no such file
 pub only_input : (s u : DeskState) (faults misses : ℕ) (has : Bool) (input : Option (List ℕ))
@@ -95,17 +113,34 @@ fails_to_read name s t u o f =
       after = only_input s u u.input_faults s.misses true (option_map (drop f.read) t.input) g;
     }
 
--- a fault that is neither of the device nor of memory is of the bytes
-pub bad_volume : (fault : VolumeFault) (s t : DeskState) → fault ≢ Read → fault ≢ Memory → FailsToReadVolume fault s t
-    → FindsBadVolume fault s t
-bad_volume Read s t no_read no_memory f = absurd (no_read refl)
-bad_volume Memory s t no_read no_memory f = absurd (no_memory refl)
-bad_volume (ShortHeader got) s t no_read no_memory f = f
-bad_volume Magic s t no_read no_memory f = f
-bad_volume (Channels count) s t no_read no_memory f = f
-bad_volume Reserved s t no_read no_memory f = f
-bad_volume (AxisZero axis) s t no_read no_memory f = f
-bad_volume (AxisLarge axis) s t no_read no_memory f = f
-bad_volume TooMany s t no_read no_memory f = f
-bad_volume (Truncated got) s t no_read no_memory f = f
-bad_volume Trailing s t no_read no_memory f = f
+-- ---- whole volumes
+
+pub reads_volume : (name : List ℕ) (volume : Grid) (s t u : DeskState) → OpensInput name s t → ReadsVolume volume t u
+    → ReadsFile name (IsVolumeFile volume) s u
+reads_volume name volume s t u o r = reads_file name (IsVolumeFile volume) s t u o
+    (if_both t.input _ _ (IsVolumeFile volume) (λ bytes sound says. record { sound = sound; says = says }) r.sound r.says) r.after
+
+-- a flaw that a fault tells of is the cause of a refusal
+pub told_flaw : (flaw : Option VolumeFlaw) (fault : VolumeFault) → option_map fault_of flaw ≡ Some fault
+    → volume_refusal flaw ≡ Some (Volume fault)
+told_flaw None fault e = cc e
+told_flaw (Some flaw) fault e = ap (option_map Volume) e
+
+bad_volume : (name : List ℕ) (fault : VolumeFault) (s t u : DeskState) → OpensInput name s t → FindsBadVolume fault t u
+    → OpensFile name (λ bytes. basins_refusal bytes ≡ Some (Volume fault)) s u
+bad_volume name fault s t u o f = opens_file name _ s t u _ o
+    (if_some t.input _ _ (λ bytes e. told_flaw (volume_flaw bytes) fault e) f.flaw) f.after.after
+
+pub no_volume : (name : List ℕ) (fault : VolumeFault) (s t u : DeskState) → OpensInput name s t → FailsToReadVolume fault t u
+    → RefusesInput basins_refusal name (of_volume fault) s u
+no_volume name Read s t u o f = fails_to_read name s t u o f
+no_volume name Memory s t u o f = opens_file name _ s t u _ o (any_bytes t.input) f.after
+no_volume name (ShortHeader got) s t u o f = bad_volume name _ s t u o f
+no_volume name Magic s t u o f = bad_volume name _ s t u o f
+no_volume name (Channels count) s t u o f = bad_volume name _ s t u o f
+no_volume name Reserved s t u o f = bad_volume name _ s t u o f
+no_volume name (AxisZero axis) s t u o f = bad_volume name _ s t u o f
+no_volume name (AxisLarge axis) s t u o f = bad_volume name _ s t u o f
+no_volume name TooMany s t u o f = bad_volume name _ s t u o f
+no_volume name (Truncated got) s t u o f = bad_volume name _ s t u o f
+no_volume name Trailing s t u o f = bad_volume name _ s t u o f

@@ -1,5 +1,6 @@
-ghost use Rattle.std.specs.Prelude.{◌≡◌, ◌<◌, All, None, Some, MatchResult, OnErr, OnOk};
-ghost use Rattle.agglo_model.specs.Cutting.{chunking, cells_at};
+ghost use Rattle.std.specs.Prelude.{◌≡◌, None, Some, MatchResult};
+ghost use Rattle.agglo_model.specs.Cutting.{chunking};
+ghost use Rattle.command_words.specs.Words.{AreSomeSizes};
 ghost use Rattle.agglo_cli.specs.Answers.{IsVolumeFile, IsTreeFile, ReadsCutVolume};
 ghost use Rattle.agglo_cli.specs.Flaws.{basins_refusal, segment_refusal, show_refusal, leaves_refusal, RefusesInput};
 ghost use Rattle.agglo_cli.specs.Reading.{ReadsFile};
@@ -44,7 +45,7 @@ pub fn read_cut_volume<D: Desk>(
     name: &str,
     chunk: [u32; 3],
 ) -> Result<CutVolume, Refusal>
-    requires { All (λ size. 0 < size) chunk }
+    requires { AreSomeSizes chunk }
     ensures { MatchResult result
         (λ read. ReadsCutVolume name.now chunk read.volume read.cutting (D.state desk.old) (D.state desk.new))
         (λ refusal. RefusesInput (segment_refusal chunk) name.now refusal (D.state desk.old) (D.state desk.new)) }
@@ -60,7 +61,7 @@ pub fn read_cut_volume<D: Desk>(
 
 /// The cutting into leaves of these sizes, unless there are too many.
 fn cut(dims: &Dims, chunk: [u32; 3]) -> Result<Cutting, Refusal>
-    requires { All (λ size. 0 < size) chunk }
+    requires { AreSomeSizes chunk }
     ensures { MatchResult result
         (λ cutting. (leaves_refusal dims.now chunk ≡ None) × (cutting ≡ chunking dims.now chunk))
         (λ refusal. leaves_refusal dims.now chunk ≡ Some refusal) }

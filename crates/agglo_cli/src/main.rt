@@ -1,22 +1,20 @@
-//! The program: words, the top call, and a desk over the real world.
+//! The program: the top call, and a desk over the real world.
 //!
-//! It stands on the crates that read, label and write. `top_call::agglo` is the program as a function over any desk, with
-//! all that is proved of it; `main` runs it over the real one.
+//! It stands on the crates that read, segment and write. `top_call::agglo` is the program as a function over any
+//! desk, with all that is proved of it; `main` runs it over the real one.
 #![tactic(auto)]
 
 mod file_desk;
 mod input;
-mod job;
 mod note;
 mod output;
-mod refusal;
 #[cfg(test)]
 mod tests;
 mod top_call;
-mod words;
 
 use crate::file_desk::FileDesk;
-use crate::top_call::agglo;
+use crate::top_call::{agglo, refuse};
+use refusals::Refusal;
 use std::alloc::Global;
 use std::process::ExitCode;
 use std::rt::Env;
@@ -25,10 +23,13 @@ use std::{env, io};
 /// Runs the top call on the words after the program's name.
 fn main(rt: HostRuntime) -> ExitCode {
     let alloc = rt.alloc();
+    let mut desk = FileDesk::new(rt, alloc);
     match program_words(&rt, alloc) {
-        Ok(words) => ExitCode::from(agglo(alloc, &words, &mut FileDesk::new(rt, alloc))),
-        Err(fault) if fault.kind() == io::ErrorKind::OutOfMemory => ExitCode::from(1),
-        Err(_) => ExitCode::from(2),
+        Ok(words) => ExitCode::from(agglo(&rt, alloc, &words, &mut desk)),
+        Err(fault) if fault.kind() == io::ErrorKind::OutOfMemory => {
+            ExitCode::from(refuse(&mut desk, &Refusal::Memory))
+        }
+        Err(_) => ExitCode::from(refuse(&mut desk, &Refusal::Words)),
     }
 }
 

@@ -1,75 +1,145 @@
-ghost use Rattle.std.specs.Prelude.{◌≡◌, ◌≢◌, ℕ, ◌<◌, ◌^◌, ◌-◌, ◌⊎◌, ◌↔◌, None, IsSome, IfSome, MatchResult};
+ghost use Rattle.std.specs.Prelude.{◌≡◌, ◌≢◌, ℕ, ◌⊎◌, ◌↔◌, List, IfSome, MatchResult};
 ghost use Rattle.agglo_model.specs.Count.{Rose};
-ghost use Rattle.agglo_model.specs.VolumeFile.{volume_flaw};
-ghost use Rattle.agglo_cli.specs.Words.{BasinsSettings, SpellsBasins};
-ghost use Rattle.agglo_cli.specs.Texts.{texts, SpellNothing};
-ghost use Rattle.agglo_cli.specs.Reading.{HasFile, OnlyInputChanges};
-ghost use Rattle.agglo_cli.specs.Run.{IsFresh, FinishesBasins, Finishes, StopsOnTheWay, NamesAFlawedFile, NamesAWholeFile, IsStatus};
-ghost use Rattle.agglo_cli.specs.Outcome.{RefusesBasins, RefusesRun};
+ghost use Rattle.command_words.specs.Jobs.{task_of};
+ghost use Rattle.command_words.specs.Texts.{texts};
+ghost use Rattle.command_words.specs.Words.{Task, Basins, Segment, Show, SegmentSettings, Spells, AreNoSettings, AreSomeSizes};
+ghost use Rattle.refusals.specs.Refusal.{status_of};
+ghost use Rattle.agglo_cli.specs.Reading.{HasFile};
+ghost use Rattle.agglo_cli.specs.Answers.{input_name};
+ghost use Rattle.agglo_cli.specs.Run.{IsFresh, FinishesTask, RefusesTask, RefusesRun, Told, Finishes, Refuses, NamesAFlawedFile, NamesAGoodFile, WritesNothing, IsStatus};
+ghost use Rattle.agglo_cli.specs.Headline.{IsAgglomerated};
 
-use crate::input::read_input;
-use crate::job::{Job, WordsFault};
-use crate::note::basins_note;
-use crate::output::write_basins;
-use crate::refusal::Refusal;
-use crate::words::read_words;
-use seg_io::Desk;
+use crate::input::{read_cut_volume, read_tree_file, read_volume_file};
+use crate::note::{basins_note, tree_note};
+use crate::output::{Names, write_basins, write_segmentation};
+use agglo_model::laws_of_merging::greedy_merges_are_lawful;
+use command_words::laws::{one_task, sizes_are_some};
+use command_words::{Job, read_words};
+use merge_tree::Tree;
+use refusals::{Refusal, tell};
+use seg_io::{Desk, Port, put_all};
+use segment_run::{Answer, Settings, report_text, segment};
 use std::alloc::Global;
+use std::thread::Threads;
 use steepest_ascent::whole_basins;
 
 /// Runs the program on the words after its name, and answers the status that it ends with.
-pub fn agglo<D: Desk>(alloc: Global, words: &[String], desk: &mut D) -> u8
+pub fn agglo<R: Threads + Sync, D: Desk>(
+    rt: &R,
+    alloc: Global,
+    words: &[String],
+    desk: &mut D,
+) -> u8
     requires { IsFresh (D.state desk.old) }
     ensures status { IsStatus result }
+
+    // One whole volume was read, and exactly the two files of greedy agglomeration of its basins were written,
+    // whatever the chunks and the workers.
+    ensures segmented { result ≡ 0 → (settings : SegmentSettings) → Spells (texts words.now) (Segment settings)
+        → IsAgglomerated settings (D.state desk.old) (D.state desk.new) }
 
     // The answer was written, whole and nothing else.
     ensures done { result ≡ 0 → Finishes (texts words.now) (D.state desk.old) (D.state desk.new) }
 
-    // Every refusal has its cause; want of memory is free, but words that are none take none.
-    ensures words { (result ≡ 2) ↔ SpellNothing (texts words.now) }
-    ensures flawed { result ≡ 3 → NamesAFlawedFile (texts words.now) (D.state desk.old) }
+    // Every refusal has its cause, and its line was printed; want of memory is free, but words that are none take
+    // none.
+    ensures refused { result ≢ 0 → Refuses (texts words.now) result (D.state desk.old) (D.state desk.new) }
+    ensures no_settings { (result ≡ 2) ↔ AreNoSettings (texts words.now) }
     ensures input { result ≡ 5 → Rose (D.state desk.old).input_faults (D.state desk.new).input_faults }
-    ensures output { result ≡ 6 → StopsOnTheWay (texts words.now) (D.state desk.old) (D.state desk.new) }
-    ensures exactly { NamesAFlawedFile (texts words.now) (D.state desk.old)
-        → IfSome (D.state desk.old).files (λ _. (result ≡ 3) ⊎ ((result ≡ 1) ⊎ (result ≡ 5))) }
+    ensures output { result ≡ 6 → Rose (D.state desk.old).output_faults (D.state desk.new).output_faults }
 
-    // With settings, a whole volume and no fault, only want of memory can come.
-    ensures complete { NamesAWholeFile (texts words.now) (D.state desk.old)
+    // A flaw of the input that the desk tells is found, but for want of memory and faults of the input.
+    ensures exactly { (status : ℕ) → NamesAFlawedFile (texts words.now) status (D.state desk.old)
+        → IfSome (D.state desk.old).files (λ _. (result ≡ status) ⊎ ((result ≡ 1) ⊎ (result ≡ 5))) }
+
+    // With settings, an input that has no flaw, and no fault, only want of memory can come.
+    ensures complete { NamesAGoodFile (texts words.now) (D.state desk.old)
         → ¬ (Rose (D.state desk.old).input_faults (D.state desk.new).input_faults)
         → ¬ (Rose (D.state desk.old).output_faults (D.state desk.new).output_faults)
         → (result ≡ 0) ⊎ (result ≡ 1) }
 
-    // No port is opened or written before the answer is known.
-    ensures quiet { result ≢ 0 → result ≢ 6 → OnlyInputChanges (D.state desk.old) (D.state desk.new) }
+    // No port is opened or written before the answer is known, but for the line of a refusal.
+    ensures quiet { result ≢ 0 → result ≢ 6 → WritesNothing (D.state desk.old) (D.state desk.new) }
 
-    // A miss comes only where the words are settings, and no file has the name of their volume.
-    ensures misses { ((settings : BasinsSettings) → SpellsBasins (texts words.now) settings
-        → HasFile (D.state desk.old) settings.volume)
+    // A miss comes only where the words are settings, and no file has the name of their input.
+    ensures misses { ((task : Task) → Spells (texts words.now) task → HasFile (D.state desk.old) (input_name task))
         → IfSome (D.state desk.old).files (λ _. (D.state desk.new).misses ≡ (D.state desk.old).misses) }
 {
-    match run(alloc, words, desk) {
+    one_task();
+    match run(rt, alloc, words, desk) {
         Ok(()) => 0,
-        Err(refusal) => refusal.status(),
+        Err(refusal) => refuse(desk, &refusal),
     }
 }
 
+/// Prints the line of a refusal, and answers its status. Where the line cannot be printed, the status still tells.
+pub fn refuse<D: Desk>(desk: &mut D, refusal: &Refusal) -> u8
+    ensures status { result ≡ status_of refusal.now }
+    ensures told { Told refusal.now (D.state desk.old) (D.state desk.new) }
+{
+    let _printed = tell(desk, refusal);
+    refusal.status()
+}
+
 /// The run itself: the words, and what they ask for.
-fn run<D: Desk>(alloc: Global, words: &[String], desk: &mut D) -> Result<(), Refusal>
+fn run<R: Threads + Sync, D: Desk>(
+    rt: &R,
+    alloc: Global,
+    words: &[String],
+    desk: &mut D,
+) -> Result<(), Refusal>
     requires { IsFresh (D.state desk.old) }
     ensures { MatchResult result
         (λ _. Finishes (texts words.now) (D.state desk.old) (D.state desk.new))
         (λ refusal. RefusesRun (texts words.now) refusal (D.state desk.old) (D.state desk.new)) }
 {
+    sizes_are_some();
     match read_words(alloc, words) {
-        Ok(
-            Job::Basins {
-                volume,
-                labels,
-                low,
-            },
-        ) => run_basins(alloc, desk, volume.as_str(), labels.as_str(), low),
-        Err(WordsFault::NoSettings) => Err(Refusal::Words),
-        Err(WordsFault::Memory) => Err(Refusal::Memory),
+        Ok(job) => run_job(rt, alloc, desk, &job),
+        Err(fault) => Err(Refusal::from(fault)),
+    }
+}
+
+/// The run of one job.
+fn run_job<R: Threads + Sync, D: Desk>(
+    rt: &R,
+    alloc: Global,
+    desk: &mut D,
+    job: &Job,
+) -> Result<(), Refusal>
+    requires fresh { IsFresh (D.state desk.old) }
+    requires sizes { (settings : SegmentSettings) → task_of job.now ≡ Segment settings → AreSomeSizes settings.chunk }
+    ensures { MatchResult result
+        (λ _. FinishesTask (task_of job.now) (D.state desk.old) (D.state desk.new))
+        (λ refusal. RefusesTask (task_of job.now) refusal (D.state desk.old) (D.state desk.new)) }
+{
+    match job {
+        Job::Basins {
+            volume,
+            labels,
+            low,
+        } => run_basins(alloc, desk, volume.as_str(), labels.as_str(), *low),
+        Job::Segment {
+            volume,
+            labels,
+            tree,
+            low,
+            threshold,
+            chunk,
+            workers,
+        } => {
+            let names = Names {
+                labels: labels.as_str(),
+                tree: tree.as_str(),
+            };
+            let settings = Settings {
+                low: *low,
+                threshold: *threshold,
+                workers: *workers,
+            };
+            run_segment(rt, alloc, desk, volume.as_str(), names, *chunk, &settings)
+        }
+        Job::Show { tree } => run_show(alloc, desk, tree.as_str()),
     }
 }
 
@@ -83,13 +153,65 @@ fn run_basins<D: Desk>(
 ) -> Result<(), Refusal>
     requires { IsFresh (D.state desk.old) }
     ensures { MatchResult result
-        (λ _. FinishesBasins (record { volume = volume.now; labels = labels.now; low = low }) (D.state desk.old) (D.state desk.new))
-        (λ refusal. RefusesBasins (record { volume = volume.now; labels = labels.now; low = low }) refusal (D.state desk.old) (D.state desk.new)) }
+        (λ _. FinishesTask (Basins (record { volume = volume.now; labels = labels.now; low = low })) (D.state desk.old) (D.state desk.new))
+        (λ refusal. RefusesTask (Basins (record { volume = volume.now; labels = labels.now; low = low })) refusal (D.state desk.old) (D.state desk.new)) }
 {
-    let volume = read_input(alloc, desk, volume)?;
+    let volume = read_volume_file(alloc, desk, volume)?;
     let basins = whole_basins(alloc, &volume, low)?;
     let note = basins_note(alloc, &basins)?;
     match write_basins(desk, labels, &basins, note.as_str()) {
+        Ok(()) => Ok(()),
+        Err(_) => Err(Refusal::Output),
+    }
+}
+
+/// Reads the volume, segments it, and writes the labels, the merge tree and the report.
+fn run_segment<R: Threads + Sync, D: Desk>(
+    rt: &R,
+    alloc: Global,
+    desk: &mut D,
+    volume: &str,
+    names: Names<'_>,
+    chunk: [u32; 3],
+    settings: &Settings,
+) -> Result<(), Refusal>
+    requires fresh { IsFresh (D.state desk.old) }
+    requires sizes { AreSomeSizes chunk }
+    ensures {
+        let task = Segment (record {
+          volume = volume.now;
+          labels = names.labels.now;
+          tree = names.tree.now;
+          low = settings.now.low;
+          threshold = settings.now.threshold;
+          chunk = chunk;
+          workers = settings.now.workers;
+        }) in
+        MatchResult result
+        (λ _. FinishesTask task (D.state desk.old) (D.state desk.new))
+        (λ refusal. RefusesTask task refusal (D.state desk.old) (D.state desk.new)) }
+{
+    greedy_merges_are_lawful();
+    let read = read_cut_volume(alloc, desk, volume, chunk)?;
+    let answer = segment(rt, alloc, &read.volume, &read.cutting, settings)?;
+    let report = report_text(alloc, &answer)?;
+    let Answer { labels, merges, .. } = answer;
+    let tree = Tree::of(read.volume.dims(), settings.threshold, merges);
+    match write_segmentation(desk, names, &labels, &tree, report.as_str()) {
+        Ok(()) => Ok(()),
+        Err(_) => Err(Refusal::Output),
+    }
+}
+
+/// Reads the merge tree, and shows it.
+fn run_show<D: Desk>(alloc: Global, desk: &mut D, tree: &str) -> Result<(), Refusal>
+    ensures { MatchResult result
+        (λ _. FinishesTask (Show tree.now) (D.state desk.old) (D.state desk.new))
+        (λ refusal. RefusesTask (Show tree.now) refusal (D.state desk.old) (D.state desk.new)) }
+{
+    let tree = read_tree_file(alloc, desk, tree)?;
+    let note = tree_note(alloc, &tree)?;
+    match put_all(desk, Port::Note, note.as_bytes()) {
         Ok(()) => Ok(()),
         Err(_) => Err(Refusal::Output),
     }

@@ -2,7 +2,7 @@
 use Rattle.std.proofs.Common.{◌≡◌, ℕ, zero, suc, ◌<◌, ◌≤◌, List, [], ◌∷◌, All, arith, refl, sym, ap, ◌∙◌, subst}
 use Rattle.std.specs.List.{flat_map}
 use Rattle.agglo_model.specs.PairOrder.{Threshold}
-use Rattle.command_words.specs.Words.{Given, given_words, HasValue, HasName, HasNumber, HasFraction, HasSizes, IsFraction, AreSizes, digits_number, BasinsSettings, SegmentSettings, GivesBasins, GivesSegment, Task, Basins, Segment, Show, command_of, Gives, Spells}
+use Rattle.command_words.specs.Words.{Given, given_words, HasValue, HasName, HasNumber, HasFraction, HasSizes, IsFraction, AreSizes, AreSomeSizes, digits_number, BasinsSettings, SegmentSettings, GivesBasins, GivesSegment, Task, Basins, Segment, Show, command_of, Gives, Spells}
 use Rattle.command_words.specs.Slots.{AreKnownOnce}
 use Rattle.command_words.proofs.Cuts.{fraction_once, sizes_once}
 use Rattle.command_words.proofs.GivenValues.{same_value}
@@ -92,15 +92,9 @@ one_task words a b s t =
     tasks_same s.options t.options same a b
     (head_is (command_of a) (command_of b) (flat_map given_words s.options) (flat_map given_words t.options) both) s.gives t.gives
 
-all_of_three : (x y z : ℕ) → 1 ≤ x → 1 ≤ y → 1 ≤ z → All (λ size. 0 < size) (x ∷ y ∷ z ∷ [])
-all_of_three x y z h k l zero d lt = omega arith
-all_of_three x y z h k l (suc zero) d lt = omega arith
-all_of_three x y z h k l (suc (suc zero)) d lt = omega arith
-all_of_three x y z h k l (suc (suc (suc i))) d lt = absurd (omega arith)
-
 pub sizes_some : (words : List (List ℕ)) (settings : SegmentSettings) → Spells words (Segment settings)
-    → All (λ size. 0 < size) settings.chunk
+    → AreSomeSizes settings.chunk
 sizes_some words settings s =
     let a = s.gives.chunk.sizes_are in
-    subst (All (λ (size : ℕ). 0 < size)) (sym a.sizes_are)
-    (all_of_three _ _ _ a.x_number.high_enough a.y_number.high_enough a.z_number.high_enough)
+    subst AreSomeSizes (sym a.sizes_are)
+    (record { x = a.x_number.high_enough; y = a.y_number.high_enough; z = a.z_number.high_enough })

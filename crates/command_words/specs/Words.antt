@@ -168,7 +168,13 @@ AreNoSettings words = (task : Task) → ¬ (Spells words task)
 abbrev pub OneTask : Type 0
 OneTask = (words : List (List ℕ)) (a b : Task) → Spells words a → Spells words b → a ≡ b
 
+-- none of three sizes is 0
+pub record AreSomeSizes (sizes : List ℕ) : Type 0 where
+  pub x : 0 < slice_index sizes 0
+  pub y : 0 < slice_index sizes 1
+  pub z : 0 < slice_index sizes 2
+
 -- the sizes of leaves that words spell are not 0
 abbrev pub SizesAreSome : Type 0
 SizesAreSome = (words : List (List ℕ)) (settings : SegmentSettings) → Spells words (Segment settings)
-    → All (λ size. 0 < size) settings.chunk
+    → AreSomeSizes settings.chunk

@@ -5,7 +5,9 @@
 #![tactic(auto)]
 
 mod basin_run;
+mod segmenting;
 #[cfg(test)]
 mod tests;
 
 pub use basin_run::basins;
+pub use segmenting::{Answer, LevelCount, Settings, report_text, segment};

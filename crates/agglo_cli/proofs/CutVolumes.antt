@@ -1,0 +1,204 @@
+-- The states of a desk whose input is read as a volume that is to be cut: the header, and then the body.
+use Rattle.std.proofs.Common.{◌≡◌, ◌==◌, ℕ, ◌+◌, ◌≤◌, ◌<◌, nat_lt, Bool, true, false, List, drop, slice_index, Option, Some, None, IfSome, refl, sym, ap, subst, ◌∙◌, inl, inr, arith, if◌then◌else◌}
+use Rattle.std.specs.Option.{option_map, option_or}
+use Rattle.std.proofs.lemmas.Bool.{cases_lt}
+use Rattle.std.proofs.lemmas.Bool.Decides.{nat_tests}
+use Rattle.agglo_model.specs.Axes.{Axes, edge_count}
+use Rattle.agglo_model.specs.Grid.{Grid}
+use Rattle.agglo_model.specs.Cutting.{Chunking, SizesFlaw, ChunkZero, TooManyLeaves, sizes_flaw, chunking, cells_at}
+use Rattle.agglo_model.specs.VolumeFile.{VolumeFlaw, header_length, header_axes, header_flaw, body, body_flaw, volume_flaw}
+use Rattle.command_words.specs.Words.{AreSomeSizes}
+use Rattle.seg_io.specs.Desk.{DeskState, taken, OpensInput}
+use Rattle.volume_file.specs.declared.fault.VolumeFault.{VolumeFault}
+use Rattle.volume_file.specs.declared.fault.VolumeFault.TheVariants.{ShortHeader, Magic, Channels, Reserved, AxisZero, AxisLarge, TooMany, Truncated, Trailing, Read, Memory}
+use Rattle.volume_file.specs.Fault.{fault_of}
+use Rattle.volume_file.specs.Reading.{ReadsHead, FindsBadHead, FailsToReadHead, ReadsBody, FindsBadBody, FailsToReadBody}
+use Rattle.volume_file.proofs.States.{fails_later}
+use Rattle.volume_file.proofs.Whole.{reads_volume as whole_volume}
+use Rattle.refusals.specs.declared.refusal.Refusal.{Refusal}
+use Rattle.refusals.specs.declared.refusal.Refusal.TheVariants.{Volume, Leaves}
+use Rattle.refusals.specs.Refusal.{of_volume}
+use Rattle.agglo_cli.specs.Answers.{ReadsCutVolume}
+use Rattle.agglo_cli.specs.Flaws.{volume_refusal, leaves_refusal, segment_refusal, RefusesInput}
+use Rattle.agglo_cli.specs.Reading.{OpensFile}
+use Rattle.agglo_cli.proofs.ReadFile.{if_some, if_both, any_bytes, opens_file, fails_to_read, reads_volume, told_flaw}
+
+-- ---- the number of leaves
+
+not_zero : (n : ℕ) → 0 < n → (n == 0) ≡ false
+not_zero n h = grind (arith, nat_tests)
+
+judged : Bool → Bool → Bool → Bool → ℕ → Option SizesFlaw
+judged x y z many leaves =
+    if x then Some (ChunkZero 0)
+    else (if y then Some (ChunkZero 1)
+    else (if z then Some (ChunkZero 2)
+    else (if many then Some (TooManyLeaves leaves) else None)))
+
+-- sizes that are not 0 have no flaw but too many leaves
+flaw_of_some : (axes : Axes) (chunk : List ℕ) → AreSomeSizes chunk → sizes_flaw axes chunk
+    ≡ (if nat_lt 262144 (cells_at (chunking axes chunk) 0) then Some (TooManyLeaves (cells_at (chunking axes chunk) 0)) else None)
+unfolding sizes_flaw judged
+flaw_of_some axes chunk some = λ i. judged (not_zero (slice_index chunk 0) some.x i) (not_zero (slice_index chunk 1) some.y i)
+    (not_zero (slice_index chunk 2) some.z i) (nat_lt 262144 (cells_at (chunking axes chunk) 0)) (cells_at (chunking axes chunk) 0)
+
+-- a test of the number of leaves, as a flaw and as a refusal
+as_flaw : Bool → ℕ → Option SizesFlaw
+as_flaw many leaves = if many then Some (TooManyLeaves leaves) else None
+
+as_refusal : Bool → ℕ → Option Refusal
+as_refusal many leaves = if many then Some (Leaves leaves) else None
+
+none_refused : (many : Bool) (leaves : ℕ) → as_flaw many leaves ≡ None → as_refusal many leaves ≡ None
+unfolding as_flaw as_refusal
+none_refused true leaves e = cc e
+none_refused false leaves e = refl
+
+same_refused : (many : Bool) (leaves n : ℕ) → as_flaw many leaves ≡ Some (TooManyLeaves n) → as_refusal many leaves ≡ Some (Leaves n)
+unfolding as_flaw as_refusal
+same_refused true leaves n e = let same : leaves ≡ n = cc e in ap (λ k. Some (Leaves k)) same
+same_refused false leaves n e = cc e
+
+never_zero : (many : Bool) (leaves axis : ℕ) → as_flaw many leaves ≡ Some (ChunkZero axis) → ⊥
+unfolding as_flaw
+never_zero true leaves axis e = cc e
+never_zero false leaves axis e = cc e
+
+refusal_is : (many : Bool) (leaves : ℕ) (refusal : Refusal) → as_refusal many leaves ≡ Some refusal → Leaves leaves ≡ refusal
+unfolding as_refusal
+refusal_is true leaves refusal e = cc e
+refusal_is false leaves refusal e = cc e
+
+few_since : (leaves : ℕ) → as_refusal (nat_lt 262144 leaves) leaves ≡ None → leaves ≤ 262144
+unfolding as_refusal
+few_since leaves e = elim (cases_lt 262144 leaves) [
+  | inl more ↦ absurd (never leaves (lt_test leaves more) e)
+  | inr few ↦ few
+]
+  where
+    lt_test : (n : ℕ) → 262144 < n → nat_lt 262144 n ≡ true
+    lt_test n h = grind (arith, nat_tests)
+    never : (n : ℕ) → nat_lt 262144 n ≡ true → as_refusal (nat_lt 262144 n) n ≡ None → ⊥
+    unfolding as_refusal
+    never n t e = cc (subst (λ (b : Bool). as_refusal b n ≡ None) t e)
+
+-- what a cutting answers is what the leaves are refused for
+pub not_refused : (axes : Axes) (chunk : List ℕ) → AreSomeSizes chunk → sizes_flaw axes chunk ≡ None → leaves_refusal axes chunk ≡ None
+unfolding as_flaw as_refusal
+not_refused axes chunk some e = none_refused (nat_lt 262144 (cells_at (chunking axes chunk) 0)) (cells_at (chunking axes chunk) 0)
+    (sym (flaw_of_some axes chunk some) ∙ e)
+
+pub too_many : (axes : Axes) (chunk : List ℕ) (leaves : ℕ) → AreSomeSizes chunk → sizes_flaw axes chunk ≡ Some (TooManyLeaves leaves)
+    → leaves_refusal axes chunk ≡ Some (Leaves leaves)
+unfolding as_flaw as_refusal
+too_many axes chunk leaves some e = same_refused (nat_lt 262144 (cells_at (chunking axes chunk) 0)) (cells_at (chunking axes chunk) 0) leaves
+    (sym (flaw_of_some axes chunk some) ∙ e)
+
+pub no_zero : (axes : Axes) (chunk : List ℕ) (axis : ℕ) → AreSomeSizes chunk → sizes_flaw axes chunk ≡ Some (ChunkZero axis) → ⊥
+unfolding as_flaw
+no_zero axes chunk axis some e = never_zero (nat_lt 262144 (cells_at (chunking axes chunk) 0)) (cells_at (chunking axes chunk) 0) axis
+    (sym (flaw_of_some axes chunk some) ∙ e)
+
+few_leaves : (axes : Axes) (chunk : List ℕ) → leaves_refusal axes chunk ≡ None → cells_at (chunking axes chunk) 0 ≤ 262144
+unfolding as_refusal
+few_leaves axes chunk e = few_since (cells_at (chunking axes chunk) 0) e
+
+leaves_are : (axes : Axes) (chunk : List ℕ) (refusal : Refusal) → leaves_refusal axes chunk ≡ Some refusal
+    → Leaves (cells_at (chunking axes chunk) 0) ≡ refusal
+unfolding as_refusal
+leaves_are axes chunk refusal e = refusal_is (nat_lt 262144 (cells_at (chunking axes chunk) 0)) (cells_at (chunking axes chunk) 0) refusal e
+
+-- ---- a header with a flaw
+
+first_flaw : (flaw : Option VolumeFlaw) (later : Option Refusal) (fault : VolumeFault) → option_map fault_of flaw ≡ Some fault
+    → option_or (volume_refusal flaw) later ≡ Some (Volume fault)
+first_flaw None later fault e = cc e
+first_flaw (Some flaw) later fault e = ap (option_map Volume) e
+
+bad_head : (name chunk : List ℕ) (fault : VolumeFault) (s t u : DeskState) → OpensInput name s t → FindsBadHead fault t u
+    → OpensFile name (λ bytes. segment_refusal chunk bytes ≡ Some (Volume fault)) s u
+bad_head name chunk fault s t u o f = opens_file name _ s t u _ o
+    (if_some t.input _ _ (λ bytes e. first_flaw (header_flaw bytes) _ fault e) f.flaw) f.after
+
+pub no_head : (name chunk : List ℕ) (fault : VolumeFault) (s t u : DeskState) → OpensInput name s t → FailsToReadHead fault t u
+    → RefusesInput (segment_refusal chunk) name (of_volume fault) s u
+no_head name chunk Read s t u o f = fails_to_read name s t u o f
+no_head name chunk Memory s t u o f = absurd f
+no_head name chunk (ShortHeader got) s t u o f = bad_head name chunk _ s t u o f
+no_head name chunk Magic s t u o f = bad_head name chunk _ s t u o f
+no_head name chunk (Channels count) s t u o f = bad_head name chunk _ s t u o f
+no_head name chunk Reserved s t u o f = bad_head name chunk _ s t u o f
+no_head name chunk (AxisZero axis) s t u o f = bad_head name chunk _ s t u o f
+no_head name chunk (AxisLarge axis) s t u o f = bad_head name chunk _ s t u o f
+no_head name chunk TooMany s t u o f = bad_head name chunk _ s t u o f
+no_head name chunk (Truncated got) s t u o f = absurd f
+no_head name chunk Trailing s t u o f = absurd f
+
+-- ---- a sound header
+
+-- what is refused after a sound header
+after_head : (axes : Axes) (chunk bytes : List ℕ) → header_flaw bytes ≡ None → axes ≡ header_axes bytes
+    → segment_refusal chunk bytes ≡ option_or (leaves_refusal axes chunk) (volume_refusal (body_flaw axes (body bytes)))
+after_head axes chunk bytes sound says =
+    ap (λ (f : Option VolumeFlaw). option_or (volume_refusal f) (option_or (leaves_refusal (header_axes bytes) chunk) (volume_refusal (body_flaw (header_axes bytes) (body bytes))))) sound
+    ∙ ap (λ (a : Axes). option_or (leaves_refusal a chunk) (volume_refusal (body_flaw a (body bytes)))) (sym says)
+
+many_leaves : (name chunk : List ℕ) (axes : Axes) (leaves : ℕ) (s t u : DeskState) → OpensInput name s t → ReadsHead axes t u
+    → leaves_refusal axes chunk ≡ Some (Leaves leaves)
+    → OpensFile name (λ bytes. segment_refusal chunk bytes ≡ Some (Leaves leaves)) s u
+many_leaves name chunk axes leaves s t u o r e = opens_file name _ s t u _ o
+    (if_both t.input _ _ _ (λ bytes sound says. after_head axes chunk bytes sound says
+    ∙ ap (λ (l : Option Refusal). option_or l (volume_refusal (body_flaw axes (body bytes)))) e) r.sound r.says) r.after
+
+pub refused_leaves : (name chunk : List ℕ) (axes : Axes) (refusal : Refusal) (s t u : DeskState) → OpensInput name s t → ReadsHead axes t u
+    → leaves_refusal axes chunk ≡ Some refusal → RefusesInput (segment_refusal chunk) name refusal s u
+refused_leaves name chunk axes refusal s t u o r e =
+    let is = leaves_are axes chunk refusal e in
+    subst (λ (f : Refusal). RefusesInput (segment_refusal chunk) name f s u) is
+    (many_leaves name chunk axes (cells_at (chunking axes chunk) 0) s t u o r (e ∙ ap (λ (f : Refusal). Some f) (sym is)))
+
+-- ---- a body
+
+-- what holds of the input after the header holds of the body
+of_body : (o : Option (List ℕ)) (P : List ℕ → Type 0) → IfSome (option_map (drop header_length) o) P → IfSome o (λ bytes. P (body bytes))
+of_body None P h = tt
+of_body (Some bytes) P h = h
+
+body_input : (axes : Axes) (t u : DeskState) (P : List ℕ → Type 0) → ReadsHead axes t u → IfSome u.input P → IfSome t.input (λ bytes. P (body bytes))
+body_input axes t u P r h = of_body t.input P (subst (λ (i : Option (List ℕ)). IfSome i P) (ap (λ (z : DeskState). z.input) r.after) h)
+
+bad_body : (name chunk : List ℕ) (axes : Axes) (fault : VolumeFault) (s t u v : DeskState) → OpensInput name s t → ReadsHead axes t u
+    → leaves_refusal axes chunk ≡ None → FindsBadBody axes fault u v
+    → OpensFile name (λ bytes. segment_refusal chunk bytes ≡ Some (Volume fault)) s v
+bad_body name chunk axes fault s t u v o r few f =
+    let flaw = body_input axes t u (λ bytes. option_map fault_of (body_flaw axes bytes) ≡ Some fault) r f.flaw in
+    let judged = if_both t.input _ _ (λ bytes. segment_refusal chunk bytes ≡ volume_refusal (body_flaw axes (body bytes)))
+    (λ bytes sound says. after_head axes chunk bytes sound says
+    ∙ ap (λ (l : Option Refusal). option_or l (volume_refusal (body_flaw axes (body bytes)))) few) r.sound r.says in
+    opens_file name _ s t v _ o
+    (if_both t.input _ _ _ (λ bytes e k. e ∙ told_flaw (body_flaw axes (body bytes)) fault k) judged flaw)
+    (f.after ∙ ap (taken (edge_count axes + 1)) r.after)
+
+pub no_body : (name chunk : List ℕ) (axes : Axes) (fault : VolumeFault) (s t u v : DeskState) → OpensInput name s t → ReadsHead axes t u
+    → leaves_refusal axes chunk ≡ None → FailsToReadBody axes fault u v
+    → RefusesInput (segment_refusal chunk) name (of_volume fault) s v
+no_body name chunk axes Read s t u v o r few f = fails_to_read name s t v o (fails_later header_length t u v r.after f)
+no_body name chunk axes Memory s t u v o r few f = opens_file name _ s t v _ o (any_bytes t.input) (f.after ∙ ap (taken f.count) r.after)
+no_body name chunk axes (Truncated got) s t u v o r few f = bad_body name chunk axes _ s t u v o r few f
+no_body name chunk axes Trailing s t u v o r few f = bad_body name chunk axes _ s t u v o r few f
+no_body name chunk axes (ShortHeader got) s t u v o r few f = absurd f
+no_body name chunk axes Magic s t u v o r few f = absurd f
+no_body name chunk axes (Channels count) s t u v o r few f = absurd f
+no_body name chunk axes Reserved s t u v o r few f = absurd f
+no_body name chunk axes (AxisZero axis) s t u v o r few f = absurd f
+no_body name chunk axes (AxisLarge axis) s t u v o r few f = absurd f
+no_body name chunk axes TooMany s t u v o r few f = absurd f
+
+pub reads_cut_volume : (name chunk : List ℕ) (axes : Axes) (volume : Grid) (cutting : Chunking) (s t u v : DeskState) → OpensInput name s t
+    → ReadsHead axes t u → leaves_refusal axes chunk ≡ None → cutting ≡ chunking axes chunk → ReadsBody axes volume u v
+    → ReadsCutVolume name chunk volume cutting s v
+reads_cut_volume name chunk axes volume cutting s t u v o r few is b = record {
+  read = reads_volume name volume s t v o (whole_volume axes volume t u v r b);
+  cutting_is = is ∙ ap (λ (a : Axes). chunking a chunk) (sym b.axes_are);
+  few_leaves = subst (λ (c : Chunking). cells_at c 0 ≤ 262144) (sym is) (few_leaves axes chunk few);
+}

@@ -1,0 +1,8 @@
+//! Stand-in.
+#![tactic(auto)]
+
+mod refusal;
+mod telling;
+
+pub use refusal::Refusal;
+pub use telling::tell;
