@@ -69,18 +69,19 @@ unfolding as_refusal
 refusal_is true leaves refusal e = cc e
 refusal_is false leaves refusal e = cc e
 
-few_since : (leaves : ℕ) → as_refusal (nat_lt 262144 leaves) leaves ≡ None → leaves ≤ 262144
+lt_test : (n : ℕ) → 262144 < n → nat_lt 262144 n ≡ true
+lt_test n h = grind (arith, nat_tests)
+
+never_many : (many : Bool) (leaves : ℕ) → many ≡ true → as_refusal many leaves ≡ None → ⊥
 unfolding as_refusal
+never_many true leaves t e = cc e
+never_many false leaves t e = cc t
+
+few_since : (leaves : ℕ) → as_refusal (nat_lt 262144 leaves) leaves ≡ None → leaves ≤ 262144
 few_since leaves e = elim (cases_lt 262144 leaves) [
-  | inl more ↦ absurd (never leaves (lt_test leaves more) e)
+  | inl more ↦ absurd (never_many (nat_lt 262144 leaves) leaves (lt_test leaves more) e)
   | inr few ↦ few
 ]
-  where
-    lt_test : (n : ℕ) → 262144 < n → nat_lt 262144 n ≡ true
-    lt_test n h = grind (arith, nat_tests)
-    never : (n : ℕ) → nat_lt 262144 n ≡ true → as_refusal (nat_lt 262144 n) n ≡ None → ⊥
-    unfolding as_refusal
-    never n t e = cc (subst (λ (b : Bool). as_refusal b n ≡ None) t e)
 
 -- what a cutting answers is what the leaves are refused for
 pub not_refused : (axes : Axes) (chunk : List ℕ) → AreSomeSizes chunk → sizes_flaw axes chunk ≡ None → leaves_refusal axes chunk ≡ None

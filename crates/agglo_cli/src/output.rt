@@ -67,11 +67,11 @@ pub fn write_segmentation<D: Desk>(
     requires labels { CanOpen LabelsPort (D.state desk.old) }
     requires tree { CanOpen TreePort (D.state desk.old) }
     ensures { MatchResult result
-        (λ _. WritesFiles (record { port = LabelsPort; name = names.labels.now; bytes = label_file labels.now.axes labels.now.labels }
-            ∷ record { port = TreePort; name = names.tree.now; bytes = tree_bytes tree.now } ∷ [])
+        (λ _. WritesFiles (record { port = LabelsPort; name = names.entry.labels.now; bytes = label_file labels.now.axes labels.now.labels }
+            ∷ record { port = TreePort; name = names.entry.tree.now; bytes = tree_bytes tree.now } ∷ [])
             note.now (D.state desk.old) (D.state desk.new))
-        (λ _. FailsInFiles (record { port = LabelsPort; name = names.labels.now; bytes = label_file labels.now.axes labels.now.labels }
-            ∷ record { port = TreePort; name = names.tree.now; bytes = tree_bytes tree.now } ∷ [])
+        (λ _. FailsInFiles (record { port = LabelsPort; name = names.entry.labels.now; bytes = label_file labels.now.axes labels.now.labels }
+            ∷ record { port = TreePort; name = names.entry.tree.now; bytes = tree_bytes tree.now } ∷ [])
             note.now (D.state desk.old) (D.state desk.new)) }
 {
     write_labels(desk, names.labels, labels)?;

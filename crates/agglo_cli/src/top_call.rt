@@ -180,8 +180,8 @@ fn run_segment<R: Threads + Sync, D: Desk>(
     ensures {
         let task = Segment (record {
           volume = volume.now;
-          labels = names.labels.now;
-          tree = names.tree.now;
+          labels = names.entry.labels.now;
+          tree = names.entry.tree.now;
           low = settings.now.low;
           threshold = settings.now.threshold;
           chunk = chunk;
