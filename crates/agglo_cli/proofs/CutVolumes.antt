@@ -7,6 +7,9 @@ use Rattle.agglo_model.specs.Axes.{Axes, edge_count}
 use Rattle.agglo_model.specs.Grid.{Grid}
 use Rattle.agglo_model.specs.Cutting.{Chunking, SizesFlaw, ChunkZero, TooManyLeaves, sizes_flaw, chunking, cells_at}
 use Rattle.agglo_model.specs.VolumeFile.{VolumeFlaw, header_length, header_axes, header_flaw, body, body_flaw, volume_flaw}
+use Rattle.chunk_tree.specs.Flaw.{flaw_of}
+use Rattle.chunk_tree.specs.declared.cutting.CutFault.{CutFault}
+use Rattle.chunk_tree.specs.declared.cutting.CutFault.TheVariants as faults
 use Rattle.command_words.specs.Words.{AreSomeSizes}
 use Rattle.seg_io.specs.Desk.{DeskState, taken, OpensInput}
 use Rattle.volume_file.specs.declared.fault.VolumeFault.{VolumeFault}
@@ -17,9 +20,9 @@ use Rattle.volume_file.proofs.States.{fails_later}
 use Rattle.volume_file.proofs.Whole.{reads_volume as whole_volume}
 use Rattle.refusals.specs.declared.refusal.Refusal.{Refusal}
 use Rattle.refusals.specs.declared.refusal.Refusal.TheVariants.{Volume, Leaves}
-use Rattle.refusals.specs.Refusal.{of_volume}
+use Rattle.refusals.specs.Refusal.{volume_refusal}
 use Rattle.agglo_cli.specs.Answers.{ReadsCutVolume}
-use Rattle.agglo_cli.specs.Flaws.{volume_refusal, leaves_refusal, segment_refusal, RefusesInput}
+use Rattle.agglo_cli.specs.Flaws.{volume_flaw_refusal, leaves_refusal, segment_refusal, RefusesInput}
 use Rattle.agglo_cli.specs.Reading.{OpensFile}
 use Rattle.agglo_cli.proofs.ReadFile.{if_some, if_both, any_bytes, opens_file, fails_to_read, reads_volume, told_flaw}
 
@@ -89,16 +92,19 @@ unfolding as_flaw as_refusal
 not_refused axes chunk some e = none_refused (nat_lt 262144 (cells_at (chunking axes chunk) 0)) (cells_at (chunking axes chunk) 0)
     (sym (flaw_of_some axes chunk some) ∙ e)
 
-pub too_many : (axes : Axes) (chunk : List ℕ) (leaves : ℕ) → AreSomeSizes chunk → sizes_flaw axes chunk ≡ Some (TooManyLeaves leaves)
-    → leaves_refusal axes chunk ≡ Some (Leaves leaves)
+pub too_many : (axes : Axes) (chunk : List ℕ) (fault : CutFault) (leaves : ℕ) → AreSomeSizes chunk → fault ≡ faults.TooManyLeaves leaves
+    → sizes_flaw axes chunk ≡ Some (flaw_of fault) → leaves_refusal axes chunk ≡ Some (Leaves leaves)
 unfolding as_flaw as_refusal
-too_many axes chunk leaves some e = same_refused (nat_lt 262144 (cells_at (chunking axes chunk) 0)) (cells_at (chunking axes chunk) 0) leaves
-    (sym (flaw_of_some axes chunk some) ∙ e)
+too_many axes chunk fault leaves some is e =
+    same_refused (nat_lt 262144 (cells_at (chunking axes chunk) 0)) (cells_at (chunking axes chunk) 0) leaves
+    (sym (flaw_of_some axes chunk some) ∙ e ∙ ap (λ (f : CutFault). Some (flaw_of f)) is)
 
-pub no_zero : (axes : Axes) (chunk : List ℕ) (axis : ℕ) → AreSomeSizes chunk → sizes_flaw axes chunk ≡ Some (ChunkZero axis) → ⊥
+pub no_zero : (axes : Axes) (chunk : List ℕ) (fault : CutFault) (axis : ℕ) → AreSomeSizes chunk → fault ≡ faults.ChunkZero axis
+    → sizes_flaw axes chunk ≡ Some (flaw_of fault) → ⊥
 unfolding as_flaw
-no_zero axes chunk axis some e = never_zero (nat_lt 262144 (cells_at (chunking axes chunk) 0)) (cells_at (chunking axes chunk) 0) axis
-    (sym (flaw_of_some axes chunk some) ∙ e)
+no_zero axes chunk fault axis some is e =
+    never_zero (nat_lt 262144 (cells_at (chunking axes chunk) 0)) (cells_at (chunking axes chunk) 0) axis
+    (sym (flaw_of_some axes chunk some) ∙ e ∙ ap (λ (f : CutFault). Some (flaw_of f)) is)
 
 few_leaves : (axes : Axes) (chunk : List ℕ) → leaves_refusal axes chunk ≡ None → cells_at (chunking axes chunk) 0 ≤ 262144
 unfolding as_refusal
@@ -112,7 +118,7 @@ leaves_are axes chunk refusal e = refusal_is (nat_lt 262144 (cells_at (chunking 
 -- ---- a header with a flaw
 
 first_flaw : (flaw : Option VolumeFlaw) (later : Option Refusal) (fault : VolumeFault) → option_map fault_of flaw ≡ Some fault
-    → option_or (volume_refusal flaw) later ≡ Some (Volume fault)
+    → option_or (volume_flaw_refusal flaw) later ≡ Some (Volume fault)
 first_flaw None later fault e = cc e
 first_flaw (Some flaw) later fault e = ap (option_map Volume) e
 
@@ -122,7 +128,7 @@ bad_head name chunk fault s t u o f = opens_file name _ s t u _ o
     (if_some t.input _ _ (λ bytes e. first_flaw (header_flaw bytes) _ fault e) f.flaw) f.after
 
 pub no_head : (name chunk : List ℕ) (fault : VolumeFault) (s t u : DeskState) → OpensInput name s t → FailsToReadHead fault t u
-    → RefusesInput (segment_refusal chunk) name (of_volume fault) s u
+    → RefusesInput (segment_refusal chunk) name (volume_refusal fault) s u
 no_head name chunk Read s t u o f = fails_to_read name s t u o f
 no_head name chunk Memory s t u o f = absurd f
 no_head name chunk (ShortHeader got) s t u o f = bad_head name chunk _ s t u o f
@@ -139,17 +145,17 @@ no_head name chunk Trailing s t u o f = absurd f
 
 -- what is refused after a sound header
 after_head : (axes : Axes) (chunk bytes : List ℕ) → header_flaw bytes ≡ None → axes ≡ header_axes bytes
-    → segment_refusal chunk bytes ≡ option_or (leaves_refusal axes chunk) (volume_refusal (body_flaw axes (body bytes)))
+    → segment_refusal chunk bytes ≡ option_or (leaves_refusal axes chunk) (volume_flaw_refusal (body_flaw axes (body bytes)))
 after_head axes chunk bytes sound says =
-    ap (λ (f : Option VolumeFlaw). option_or (volume_refusal f) (option_or (leaves_refusal (header_axes bytes) chunk) (volume_refusal (body_flaw (header_axes bytes) (body bytes))))) sound
-    ∙ ap (λ (a : Axes). option_or (leaves_refusal a chunk) (volume_refusal (body_flaw a (body bytes)))) (sym says)
+    ap (λ (f : Option VolumeFlaw). option_or (volume_flaw_refusal f) (option_or (leaves_refusal (header_axes bytes) chunk) (volume_flaw_refusal (body_flaw (header_axes bytes) (body bytes))))) sound
+    ∙ ap (λ (a : Axes). option_or (leaves_refusal a chunk) (volume_flaw_refusal (body_flaw a (body bytes)))) (sym says)
 
 many_leaves : (name chunk : List ℕ) (axes : Axes) (leaves : ℕ) (s t u : DeskState) → OpensInput name s t → ReadsHead axes t u
     → leaves_refusal axes chunk ≡ Some (Leaves leaves)
     → OpensFile name (λ bytes. segment_refusal chunk bytes ≡ Some (Leaves leaves)) s u
 many_leaves name chunk axes leaves s t u o r e = opens_file name _ s t u _ o
     (if_both t.input _ _ _ (λ bytes sound says. after_head axes chunk bytes sound says
-    ∙ ap (λ (l : Option Refusal). option_or l (volume_refusal (body_flaw axes (body bytes)))) e) r.sound r.says) r.after
+    ∙ ap (λ (l : Option Refusal). option_or l (volume_flaw_refusal (body_flaw axes (body bytes)))) e) r.sound r.says) r.after
 
 pub refused_leaves : (name chunk : List ℕ) (axes : Axes) (refusal : Refusal) (s t u : DeskState) → OpensInput name s t → ReadsHead axes t u
     → leaves_refusal axes chunk ≡ Some refusal → RefusesInput (segment_refusal chunk) name refusal s u
@@ -173,16 +179,16 @@ bad_body : (name chunk : List ℕ) (axes : Axes) (fault : VolumeFault) (s t u v 
     → OpensFile name (λ bytes. segment_refusal chunk bytes ≡ Some (Volume fault)) s v
 bad_body name chunk axes fault s t u v o r few f =
     let flaw = body_input axes t u (λ bytes. option_map fault_of (body_flaw axes bytes) ≡ Some fault) r f.flaw in
-    let judged = if_both t.input _ _ (λ bytes. segment_refusal chunk bytes ≡ volume_refusal (body_flaw axes (body bytes)))
+    let judged = if_both t.input _ _ (λ bytes. segment_refusal chunk bytes ≡ volume_flaw_refusal (body_flaw axes (body bytes)))
     (λ bytes sound says. after_head axes chunk bytes sound says
-    ∙ ap (λ (l : Option Refusal). option_or l (volume_refusal (body_flaw axes (body bytes)))) few) r.sound r.says in
+    ∙ ap (λ (l : Option Refusal). option_or l (volume_flaw_refusal (body_flaw axes (body bytes)))) few) r.sound r.says in
     opens_file name _ s t v _ o
     (if_both t.input _ _ _ (λ bytes e k. e ∙ told_flaw (body_flaw axes (body bytes)) fault k) judged flaw)
     (f.after ∙ ap (taken (edge_count axes + 1)) r.after)
 
 pub no_body : (name chunk : List ℕ) (axes : Axes) (fault : VolumeFault) (s t u v : DeskState) → OpensInput name s t → ReadsHead axes t u
     → leaves_refusal axes chunk ≡ None → FailsToReadBody axes fault u v
-    → RefusesInput (segment_refusal chunk) name (of_volume fault) s v
+    → RefusesInput (segment_refusal chunk) name (volume_refusal fault) s v
 no_body name chunk axes Read s t u v o r few f = fails_to_read name s t v o (fails_later header_length t u v r.after f)
 no_body name chunk axes Memory s t u v o r few f = opens_file name _ s t v _ o (any_bytes t.input) (f.after ∙ ap (taken f.count) r.after)
 no_body name chunk axes (Truncated got) s t u v o r few f = bad_body name chunk axes _ s t u v o r few f

@@ -2,3 +2,7 @@ mod ReadFile
 mod CutVolumes
 mod Trees
 mod Written
+mod ShownLines
+mod Segmented
+mod Judged
+mod Explained

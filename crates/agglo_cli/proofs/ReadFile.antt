@@ -10,10 +10,10 @@ use Rattle.volume_file.specs.declared.fault.VolumeFault.TheVariants.{ShortHeader
 use Rattle.volume_file.specs.Fault.{fault_of}
 use Rattle.volume_file.specs.Reading.{ReadsVolume, FindsBadVolume, FailsToReadVolume}
 use Rattle.refusals.specs.declared.refusal.Refusal.TheVariants.{Volume}
-use Rattle.refusals.specs.Refusal.{of_volume}
+use Rattle.refusals.specs.Refusal.{volume_refusal}
 use Rattle.agglo_cli.specs.Reading.{file_of, OnlyInputChanges, OpensFile, ReadsFile, FailsToReadFile}
 use Rattle.agglo_cli.specs.Answers.{IsVolumeFile}
-use Rattle.agglo_cli.specs.Flaws.{volume_refusal, basins_refusal, RefusesInput}
+use Rattle.agglo_cli.specs.Flaws.{volume_flaw_refusal, basins_refusal, RefusesInput}
 
 -- what holds of the input that was opened holds of the file
 of_file : (name : List ℕ) (files : Option (List File)) (input : Option (List ℕ)) (P : List ℕ → Type 0)
@@ -122,7 +122,7 @@ reads_volume name volume s t u o r = reads_file name (IsVolumeFile volume) s t u
 
 -- a flaw that a fault tells of is the cause of a refusal
 pub told_flaw : (flaw : Option VolumeFlaw) (fault : VolumeFault) → option_map fault_of flaw ≡ Some fault
-    → volume_refusal flaw ≡ Some (Volume fault)
+    → volume_flaw_refusal flaw ≡ Some (Volume fault)
 told_flaw None fault e = cc e
 told_flaw (Some flaw) fault e = ap (option_map Volume) e
 
@@ -132,7 +132,7 @@ bad_volume name fault s t u o f = opens_file name _ s t u _ o
     (if_some t.input _ _ (λ bytes e. told_flaw (volume_flaw bytes) fault e) f.flaw) f.after.after
 
 pub no_volume : (name : List ℕ) (fault : VolumeFault) (s t u : DeskState) → OpensInput name s t → FailsToReadVolume fault t u
-    → RefusesInput basins_refusal name (of_volume fault) s u
+    → RefusesInput basins_refusal name (volume_refusal fault) s u
 no_volume name Read s t u o f = fails_to_read name s t u o f
 no_volume name Memory s t u o f = opens_file name _ s t u _ o (any_bytes t.input) f.after
 no_volume name (ShortHeader got) s t u o f = bad_volume name _ s t u o f

@@ -8,9 +8,9 @@ use Rattle.merge_tree.specs.declared.tree_fault.TreeFault.TheVariants.{ShortHead
 use Rattle.merge_tree.specs.TreeFault.{fault_of}
 use Rattle.merge_tree.specs.TreeReading.{ReadsTree, FindsBadTree, FailsToReadTree}
 use Rattle.refusals.specs.declared.refusal.Refusal.TheVariants.{Tree}
-use Rattle.refusals.specs.Refusal.{of_tree}
+use Rattle.refusals.specs.Refusal.{tree_refusal}
 use Rattle.agglo_cli.specs.Answers.{IsTreeFile}
-use Rattle.agglo_cli.specs.Flaws.{tree_refusal, show_refusal, RefusesInput}
+use Rattle.agglo_cli.specs.Flaws.{tree_flaw_refusal, show_refusal, RefusesInput}
 use Rattle.agglo_cli.specs.Reading.{OpensFile, ReadsFile}
 use Rattle.agglo_cli.proofs.ReadFile.{if_some, if_both, any_bytes, opens_file, reads_file, fails_to_read}
 
@@ -19,7 +19,7 @@ pub reads_tree : (name : List ℕ) (tree : MergeTree) (s t u : DeskState) → Op
 reads_tree name tree s t u o r = reads_file name (IsTreeFile tree) s t u o
     (if_both t.input _ _ (IsTreeFile tree) (λ bytes sound says. record { sound = sound; says = says }) r.sound r.says) r.after
 
-told_flaw : (flaw : Option TreeFlaw) (fault : TreeFault) → option_map fault_of flaw ≡ Some fault → tree_refusal flaw ≡ Some (Tree fault)
+told_flaw : (flaw : Option TreeFlaw) (fault : TreeFault) → option_map fault_of flaw ≡ Some fault → tree_flaw_refusal flaw ≡ Some (Tree fault)
 told_flaw None fault e = cc e
 told_flaw (Some flaw) fault e = ap (option_map Tree) e
 
@@ -29,7 +29,7 @@ bad_tree name fault s t u o f = opens_file name _ s t u _ o
     (if_some t.input _ _ (λ bytes e. told_flaw (tree_flaw bytes) fault e) f.flaw) f.after.after
 
 pub no_tree : (name : List ℕ) (fault : TreeFault) (s t u : DeskState) → OpensInput name s t → FailsToReadTree fault t u
-    → RefusesInput show_refusal name (of_tree fault) s u
+    → RefusesInput show_refusal name (tree_refusal fault) s u
 no_tree name Read s t u o f = fails_to_read name s t u o f
 no_tree name Memory s t u o f = opens_file name _ s t u _ o (any_bytes t.input) f.after
 no_tree name (ShortHeader got) s t u o f = bad_tree name _ s t u o f

@@ -1,5 +1,5 @@
 -- The states of a desk on which files are written one after another, and then a note.
-use Rattle.std.proofs.Common.{◌≡◌, ◌≢◌, ℕ, ◌≤◌, ◌⊎◌, List, [], ◌∷◌, ◌++◌, Option, Some, None, IfSome, refl, sym, ap, subst, ◌∙◌, inl, inr, append_assoc}
+use Rattle.std.proofs.Common.{◌≡◌, ◌≢◌, ℕ, ◌≤◌, ◌⊎◌, List, [], ◌∷◌, ◌++◌, Option, Some, None, IfSome, Result, Ok, Err, MatchResult, refl, sym, ap, subst, ◌∙◌, inl, inr, append_assoc}
 use Rattle.std.specs.Option.{option_map}
 use Rattle.agglo_model.specs.Count.{Rose}
 use Rattle.seg_io.specs.declared.port.Port.{Port}
@@ -54,14 +54,14 @@ tree_can_open name bytes s t can w listed = can (listed_before Tree Labels name 
 -- ---- what stays
 
 -- the port is a file
-pub IsFilePort : Port → Type 0
+unfoldable pub IsFilePort : Port → Type 0
 IsFilePort Labels = Unit {0}
 IsFilePort Tree = Unit {0}
 IsFilePort Volume = Unit {0}
 IsFilePort Note = ⊥
 IsFilePort Trouble = ⊥
 
-pub AreFiles : List Output → Type 0
+unfoldable pub AreFiles : List Output → Type 0
 AreFiles [] = Unit {0}
 AreFiles (output ∷ others) = IsFilePort output.port × AreFiles others
 
@@ -219,3 +219,13 @@ holds_two labels_name tree_name labels tree note s t (m, first, (n, second, e)) 
       ∙ ap (λ (o : List Opened). o ++ record { port = Tree; name = tree_name } ∷ []) (opened_by_labels labels_name labels s m first)
       ∙ append_assoc s.opened (record { port = Labels; name = labels_name } ∷ []) (record { port = Tree; name = tree_name } ∷ []);
 }
+
+-- ---- the note after two files
+
+pub two_files_outcome : {X E : Type 0} (result : Result X E) (first second : Output) (note note' : List ℕ) (s m n u : DeskState)
+    → note' ≡ note → WritesFile first s m → WritesFile second m n
+    → MatchResult result (λ _. u ≡ appended Note note' n) (λ _. FailsAfterWriting Note note' n u)
+    → MatchResult result (λ _. WritesFiles (first ∷ second ∷ []) note s u) (λ _. FailsInFiles (first ∷ second ∷ []) note s u)
+two_files_outcome (Ok x) first second note note' s m n u same w v e = (m, w, (n, v, e ∙ ap (λ b. appended Note b n) same))
+two_files_outcome (Err x) first second note note' s m n u same w v f =
+    inr (m, w, inr (n, v, subst (λ b. FailsAfterWriting Note b n u) same f))

@@ -13,11 +13,11 @@ use Rattle.refusals.specs.declared.refusal.Refusal.{Refusal}
 use Rattle.refusals.specs.declared.refusal.Refusal.TheVariants.{Memory, Words, Volume, Leaves, Input, Output, Tree}
 use Rattle.agglo_cli.specs.Reading.{OpensFile, FailsToReadFile}
 
-abbrev pub volume_refusal : Option VolumeFlaw → Option Refusal
-volume_refusal flaw = option_map (λ f. Volume (fault_of f)) flaw
+abbrev pub volume_flaw_refusal : Option VolumeFlaw → Option Refusal
+volume_flaw_refusal flaw = option_map (λ f. Volume (fault_of f)) flaw
 
-abbrev pub tree_refusal : Option TreeFlaw → Option Refusal
-tree_refusal flaw = option_map (λ f. Tree (tree_fault_of f)) flaw
+abbrev pub tree_flaw_refusal : Option TreeFlaw → Option Refusal
+tree_flaw_refusal flaw = option_map (λ f. Tree (tree_fault_of f)) flaw
 
 -- more leaves than a cutting may have
 abbrev pub leaves_refusal : Axes → List ℕ → Option Refusal
@@ -27,19 +27,19 @@ leaves_refusal axes chunk =
 
 -- why bytes are no volume
 abbrev pub basins_refusal : List ℕ → Option Refusal
-basins_refusal bytes = volume_refusal (volume_flaw bytes)
+basins_refusal bytes = volume_flaw_refusal (volume_flaw bytes)
 
 -- Why bytes are no volume that can be cut into leaves of these sizes: the header is judged first, then the leaves
 -- are counted, and then the body is judged.
 abbrev pub segment_refusal : List ℕ → List ℕ → Option Refusal
 segment_refusal chunk bytes =
-    option_or (volume_refusal (header_flaw bytes))
+    option_or (volume_flaw_refusal (header_flaw bytes))
     (option_or (leaves_refusal (header_axes bytes) chunk)
-    (volume_refusal (body_flaw (header_axes bytes) (body bytes))))
+    (volume_flaw_refusal (body_flaw (header_axes bytes) (body bytes))))
 
 -- why bytes are no merge tree
 abbrev pub show_refusal : List ℕ → Option Refusal
-show_refusal bytes = tree_refusal (tree_flaw bytes)
+show_refusal bytes = tree_flaw_refusal (tree_flaw bytes)
 
 -- The first cause that holds of the bytes of a task's input; none where they are an input for the task.
 abbrev pub input_refusal : Task → List ℕ → Option Refusal

@@ -5,8 +5,7 @@ use Rattle.seg_io.specs.Desk.{DeskState, CanOpen, appended, FailsAfterWriting}
 use Rattle.seg_io.specs.declared.port.Port.TheVariants.{Labels, Tree as TreePort, Volume as VolumePort, Trouble}
 use Rattle.refusals.specs.declared.refusal.Refusal.{Refusal}
 use Rattle.refusals.specs.declared.refusal.Refusal.TheVariants.{Memory, Words, Volume, Leaves, Input, Output, Tree}
-use Rattle.refusals.specs.Refusal.{status_of}
-use Rattle.refusals.specs.Lines.{line_of}
+use Rattle.refusals.specs.Refusal.{status_of, line_of}
 use Rattle.agglo_cli.specs.Reading.{file_of, HasFile}
 use Rattle.agglo_cli.specs.Writing.{Answer, WritesAll, StopsWriting}
 use Rattle.agglo_cli.specs.Answers.{input_name, Finds}

@@ -21,11 +21,7 @@ pub struct CutVolume {
 }
 
 /// Reads the volume in the file of this name, to its end.
-pub fn read_volume_file<D: Desk>(
-    alloc: Global,
-    desk: &mut D,
-    name: &str,
-) -> Result<Volume, Refusal>
+pub fn read_volume_file<D: Desk>(alloc: Global, desk: &mut D, name: &str) -> Result<Volume, Refusal>
     ensures { MatchResult result
         (λ volume. ReadsFile name.now (IsVolumeFile volume) (D.state desk.old) (D.state desk.new))
         (λ refusal. RefusesInput basins_refusal name.now refusal (D.state desk.old) (D.state desk.new)) }

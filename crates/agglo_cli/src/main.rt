@@ -8,6 +8,7 @@ mod file_desk;
 mod input;
 mod note;
 mod output;
+mod shown;
 #[cfg(test)]
 mod tests;
 mod top_call;

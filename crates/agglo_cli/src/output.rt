@@ -41,9 +41,9 @@ pub fn write_basins<D: Desk>(
     requires { CanOpen LabelsPort (D.state desk.old) }
     ensures { MatchResult result
         (λ _. WritesFiles (record { port = LabelsPort; name = name.now; bytes = label_file labels.now.axes labels.now.labels } ∷ [])
-            note.now (D.state desk.old) (D.state desk.new))
+        note.now (D.state desk.old) (D.state desk.new))
         (λ _. FailsInFiles (record { port = LabelsPort; name = name.now; bytes = label_file labels.now.axes labels.now.labels } ∷ [])
-            note.now (D.state desk.old) (D.state desk.new)) }
+        note.now (D.state desk.old) (D.state desk.new)) }
 {
     write_labels(desk, name, labels)?;
     put_all(desk, Port::Note, note.as_bytes())
@@ -68,11 +68,11 @@ pub fn write_segmentation<D: Desk>(
     requires tree { CanOpen TreePort (D.state desk.old) }
     ensures { MatchResult result
         (λ _. WritesFiles (record { port = LabelsPort; name = names.entry.labels.now; bytes = label_file labels.now.axes labels.now.labels }
-            ∷ record { port = TreePort; name = names.entry.tree.now; bytes = tree_bytes tree.now } ∷ [])
-            note.now (D.state desk.old) (D.state desk.new))
+        ∷ record { port = TreePort; name = names.entry.tree.now; bytes = tree_bytes tree.now } ∷ [])
+        note.now (D.state desk.old) (D.state desk.new))
         (λ _. FailsInFiles (record { port = LabelsPort; name = names.entry.labels.now; bytes = label_file labels.now.axes labels.now.labels }
-            ∷ record { port = TreePort; name = names.entry.tree.now; bytes = tree_bytes tree.now } ∷ [])
-            note.now (D.state desk.old) (D.state desk.new)) }
+        ∷ record { port = TreePort; name = names.entry.tree.now; bytes = tree_bytes tree.now } ∷ [])
+        note.now (D.state desk.old) (D.state desk.new)) }
 {
     write_labels(desk, names.labels, labels)?;
     write_tree(desk, names.tree, tree)?;

@@ -10,8 +10,10 @@ ghost use Rattle.agglo_cli.specs.Run.{IsFresh, FinishesTask, RefusesTask, Refuse
 ghost use Rattle.agglo_cli.specs.Headline.{IsAgglomerated};
 
 use crate::input::{read_cut_volume, read_tree_file, read_volume_file};
-use crate::note::{basins_note, tree_note};
+use crate::note::basins_note;
 use crate::output::{Names, write_basins, write_segmentation};
+use crate::shown::tree_note;
+use agglo_model::laws::bounded_labels;
 use agglo_model::laws_of_merging::greedy_merges_are_lawful;
 use command_words::laws::{one_task, sizes_are_some};
 use command_words::{Job, read_words};
@@ -177,20 +179,20 @@ fn run_segment<R: Threads + Sync, D: Desk>(
 ) -> Result<(), Refusal>
     requires fresh { IsFresh (D.state desk.old) }
     requires sizes { AreSomeSizes chunk }
-    ensures {
-        let task = Segment (record {
-          volume = volume.now;
-          labels = names.entry.labels.now;
-          tree = names.entry.tree.now;
-          low = settings.now.low;
-          threshold = settings.now.threshold;
-          chunk = chunk;
-          workers = settings.now.workers;
-        }) in
+    ensures { let task = Segment (record {
+      volume = volume.now;
+      labels = names.entry.labels.now;
+      tree = names.entry.tree.now;
+      low = settings.now.low;
+      threshold = settings.now.threshold;
+      chunk = chunk;
+      workers = settings.now.workers;
+    }) in
         MatchResult result
         (λ _. FinishesTask task (D.state desk.old) (D.state desk.new))
         (λ refusal. RefusesTask task refusal (D.state desk.old) (D.state desk.new)) }
 {
+    bounded_labels();
     greedy_merges_are_lawful();
     let read = read_cut_volume(alloc, desk, volume, chunk)?;
     let answer = segment(rt, alloc, &read.volume, &read.cutting, settings)?;

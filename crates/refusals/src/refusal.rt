@@ -1,17 +1,28 @@
+ghost use Rattle.std.specs.Prelude.{◌≡◌};
+ghost use Rattle.refusals.specs.declared.refusal.Refusal.TheVariants as refusals;
+ghost use Rattle.refusals.specs.Refusal.{words_refusal, volume_refusal, tree_refusal};
+
 use agglo_model::Memory;
 use command_words::WordsFault;
 use merge_tree::TreeFault;
 use volume_file::VolumeFault;
 
-/// Why a run ended without its answer being written.
-#[derive(Clone, Copy, Debug)]
+/// Why a run of the program ended without its answer being written.
+#[derive(Clone, Copy, Debug, PartialEq, Eq)]
 pub enum Refusal {
+    /// There was not enough memory.
     Memory,
+    /// The words are no settings of any command.
     Words,
+    /// The input is no whole volume file. It is never a fault of reading or of memory.
     Volume(VolumeFault),
+    /// The chunks make so many leaves, and those are too many.
     Leaves(u64),
+    /// The input is missing or failed.
     Input,
+    /// An output could not be opened, or failed.
     Output,
+    /// The input is no whole tree file. It is never a fault of reading or of memory.
     Tree(TreeFault),
 }
 
@@ -36,10 +47,7 @@ impl Refusal {
 }
 
 impl From<Memory> for Refusal {
-    ghost use Rattle.std.specs.Prelude.{◌≡◌};
-    ghost use Rattle.refusals.specs.declared.refusal.Refusal.TheVariants as refusals;
-
-    ghost from_gives = { λ _ refusal. refusal ≡ refusals.Memory };
+    ghost from_gives = { λ _ made. made ≡ refusals.Memory };
 
     fn from(_memory: Memory) -> Refusal {
         Refusal::Memory
@@ -47,10 +55,7 @@ impl From<Memory> for Refusal {
 }
 
 impl From<WordsFault> for Refusal {
-    ghost use Rattle.std.specs.Prelude.{◌≡◌};
-    ghost use Rattle.refusals.specs.Refusal.{of_words};
-
-    ghost from_gives = { λ fault refusal. refusal ≡ of_words fault };
+    ghost from_gives = { λ fault made. made ≡ words_refusal fault };
 
     fn from(fault: WordsFault) -> Refusal {
         match fault {
@@ -61,31 +66,25 @@ impl From<WordsFault> for Refusal {
 }
 
 impl From<VolumeFault> for Refusal {
-    ghost use Rattle.std.specs.Prelude.{◌≡◌};
-    ghost use Rattle.refusals.specs.Refusal.{of_volume};
-
-    ghost from_gives = { λ fault refusal. refusal ≡ of_volume fault };
+    ghost from_gives = { λ fault made. made ≡ volume_refusal fault };
 
     fn from(fault: VolumeFault) -> Refusal {
         match fault {
             VolumeFault::Read => Refusal::Input,
             VolumeFault::Memory => Refusal::Memory,
-            fault => Refusal::Volume(fault),
+            _ => Refusal::Volume(fault),
         }
     }
 }
 
 impl From<TreeFault> for Refusal {
-    ghost use Rattle.std.specs.Prelude.{◌≡◌};
-    ghost use Rattle.refusals.specs.Refusal.{of_tree};
-
-    ghost from_gives = { λ fault refusal. refusal ≡ of_tree fault };
+    ghost from_gives = { λ fault made. made ≡ tree_refusal fault };
 
     fn from(fault: TreeFault) -> Refusal {
         match fault {
             TreeFault::Read => Refusal::Input,
             TreeFault::Memory => Refusal::Memory,
-            fault => Refusal::Tree(fault),
+            _ => Refusal::Tree(fault),
         }
     }
 }

@@ -1,8 +1,11 @@
+use Rattle.chunk_tree.specs.Flaw.{flaw_of}
 use Rattle.agglo_cli.proofs.CutVolumes.{too_many, no_zero}
 use Rattle.agglo_cli.proofs.input.cut.Goals as goal
 
 pub returns-in-Err-TooManyLeaves : goal.returns-in-Err-TooManyLeaves
-returns-in-Err-TooManyLeaves c = too_many _ _ _ c.requires c.in-Err-TooManyLeaves.ensures
+returns-in-Err-TooManyLeaves c =
+    too_many _ _ _ c.in-Err-TooManyLeaves.leaves c.requires c.in-Err-TooManyLeaves.field-0-is c.in-Err-TooManyLeaves.ensures
 
 pub returns-in-Err-ChunkZero : goal.returns-in-Err-ChunkZero
-returns-in-Err-ChunkZero c = absurd (no_zero _ _ _ c.requires c.in-Err-ChunkZero.ensures)
+returns-in-Err-ChunkZero c =
+    absurd (no_zero _ _ _ c.in-Err-ChunkZero.field-0-0 c.requires c.in-Err-ChunkZero.field-0-is c.in-Err-ChunkZero.ensures)

@@ -1,0 +1,6 @@
+use Rattle.std.proofs.Common.{ap}
+use Rattle.command_words.specs.Jobs.{task_of}
+use Rattle.agglo_cli.proofs.top_call.run_job.Goals as goal
+
+pub run_segment-requires-clause-sizes : goal.run_segment-requires-clause-sizes
+run_segment-requires-clause-sizes g c κs within = c.requires.sizes _ (ap task_of c.in-Segment.is)

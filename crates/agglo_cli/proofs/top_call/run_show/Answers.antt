@@ -1,0 +1,30 @@
+use Rattle.std.proofs.Common.{◌≡◌, ℕ, List, [], ◌∙◌, ap, subst}
+use Rattle.agglo_model.specs.TreeFile.{MergeTree}
+use Rattle.seg_io.specs.Desk.{DeskState, appended, FailsAfterWriting}
+use Rattle.seg_io.specs.declared.port.Port.TheVariants.{Note}
+use Rattle.agglo_cli.specs.Answers.{show_answer}
+use Rattle.agglo_cli.proofs.top_call.run_show.Goals as goal
+
+pub returns-in-Ok : goal.returns-in-Ok
+returns-in-Ok g c = record {
+  mid = g.D.Desk.state c.read_tree_file.new.desk;
+  answer = _;
+  found = record {
+    tree = c.in_ok-tree.tree;
+    read = c.in_ok-tree.ensures;
+    answer_is = ap (λ n. record { outputs = []; note = n }) (c.as_bytes.ensures.value ∙ c.in_ok-note.ensures);
+  };
+  wrote = c.in-Ok.ensures;
+}
+
+pub returns : goal.returns
+returns g c = record {
+  mid = g.D.Desk.state c.read_tree_file.new.desk;
+  answer = _;
+  found = record {
+    tree = c.in_ok-tree.tree;
+    read = c.in_ok-tree.ensures;
+    answer_is = ap (λ n. record { outputs = []; note = n }) (c.as_bytes.ensures.value ∙ c.in_ok-note.ensures);
+  };
+  stopped = c.in-Err.ensures;
+}
