@@ -4,10 +4,8 @@
 //! It stands on `face_pointers`, `steepest_ascent` and `chunk_tree`. The commands stand on it.
 #![tactic(auto)]
 
-mod basin_run;
-mod segmenting;
+mod basins;
 #[cfg(test)]
 mod tests;
 
-pub use basin_run::basins;
-pub use segmenting::{Answer, LevelCount, Settings, report_text, segment};
+pub use basins::basins;

@@ -24,8 +24,7 @@ fn volume(alloc: Global, axes: [u32; 3], seed: u32) -> Result<Volume, Trouble> {
     let mut random = seed;
     for _ in 0..dims.body_len() {
         random = random.wrapping_mul(1664525).wrapping_add(1013904223);
-        body.push((random >> 28) as u8 % 5)
-            .map_err(|_| Trouble::Memory(Memory))?;
+        body.push((random >> 28) as u8 % 5).map_err(|_| Trouble::Memory(Memory))?;
     }
     if body.len() != dims.body_len() as usize {
         return Err(Trouble::Length);
