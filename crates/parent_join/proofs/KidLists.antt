@@ -1,0 +1,74 @@
+-- The lists of regions and edges of a node's children, child by child.
+use Rattle.std.proofs.Common.{◌≡◌, ℕ, zero, suc, ◌+◌, ◌<◌, List, [], ◌∷◌, ◌++◌, length, get_or, take, refl, sym, ap, ◌∙◌, subst, append_assoc, arith}
+use Rattle.std.specs.Prelude.{All, Contains, bit_and, map}
+use Rattle.std.proofs.lemmas.List.{append-nil, map-append, take_more}
+use Rattle.std.proofs.lemmas.List.Elements.{Contains-push_cases}
+use Rattle.agglo_model.specs.Cutting.{Chunking, low_corner, high_corner, cell_low, cell_high, is_low_artificial, is_high_artificial, artificial_faces, face_bits, child}
+use Rattle.agglo_model.specs.RegionGraph.{Region, RegionGraph, IsGraph}
+use Rattle.agglo_model.specs.Joining.{kept_edges, kept_faces, kept_region, kept_regions}
+use Rattle.region_graph.specs.declared.graph.Residue.{Residue}
+use Rattle.work_laws.proofs.FaceBits.{and_faces}
+use Rattle.parent_join.specs.Kids.{graphs_of, shared_faces, with_faces_in}
+
+-- ---- one child more
+
+regions-push : (c : Chunking) (m i : ℕ) (kids : List RegionGraph) (kid : RegionGraph)
+    → kept_regions c m i (kids ++ kid ∷ [])
+    ≡ kept_regions c m i kids ++ map (kept_region c m (child c m (i + length kids))) kid.regions
+regions-push c m i [] kid =
+    let same : i ≡ i + 0 = omega arith in
+    append-nil (map (kept_region c m (child c m i)) kid.regions)
+    ∙ ap (λ n. map (kept_region c m (child c m n)) kid.regions) same
+regions-push c m i (first ∷ kids) kid =
+    let next : i + 1 + length kids ≡ i + suc (length kids) = omega arith in
+    let here = map (kept_region c m (child c m i)) first.regions in
+    ap (λ l. here ++ l) (regions-push c m (i + 1) kids kid)
+    ∙ sym (append_assoc here (kept_regions c m (i + 1) kids) (map (kept_region c m (child c m (i + 1 + length kids))) kid.regions))
+    ∙ ap (λ n. (here ++ kept_regions c m (i + 1) kids) ++ map (kept_region c m (child c m n)) kid.regions) next
+
+edges-push : (kids : List RegionGraph) (kid : RegionGraph) → kept_edges (kids ++ kid ∷ []) ≡ kept_edges kids ++ kid.edges
+edges-push [] kid = append-nil kid.edges
+edges-push (first ∷ kids) kid =
+    ap (λ l. first.edges ++ l) (edges-push kids kid) ∙ sym (append_assoc first.edges (kept_edges kids) kid.edges)
+
+-- what was gathered of the children so far
+pub record AreGathered (c : Chunking) (m i : ℕ) (done : List Residue) (regions : List Region) (edges : List GraphEdge) : Type 0 where
+  pub number : i ≡ length done
+  pub regions_are : regions ≡ kept_regions c m 0 (graphs_of done)
+  pub edges_are : edges ≡ kept_edges (graphs_of done)
+  pub graphs : All IsGraph (graphs_of done)
+
+pub none_gathered : (c : Chunking) (m : ℕ) → AreGathered c m 0 [] [] []
+none_gathered c m = record {
+  number = refl;
+  regions_are = refl;
+  edges_are = refl;
+  graphs = λ i d below. absurd (omega arith);
+}
+
+graphs-push : (done : List Residue) (kid : Residue) → graphs_of (done ++ kid ∷ []) ≡ graphs_of done ++ kid.graph ∷ []
+graphs-push done kid = map-append (λ (r : Residue). r.graph) done (kid ∷ [])
+
+pub gathered_more : (c : Chunking) (m i : ℕ) (done : List Residue) (regions : List Region) (edges : List GraphEdge) (kid : Residue)
+    (faces : ℕ) → AreGathered c m i done regions edges → IsGraph kid.graph → faces ≡ kept_faces c m (child c m i)
+    → AreGathered c m (i + 1) (done ++ kid ∷ []) (regions ++ map (with_faces_in faces) kid.graph.regions) (edges ++ kid.graph.edges)
+gathered_more c m i done regions edges kid faces so_far is faces_are =
+    let graphs = graphs-push done kid in
+    let len : length (graphs_of done) ≡ i = length-map done (λ (r : Residue). r.graph) ∙ sym so_far.number in
+    record {
+      number = let more = length_push done kid in let number = so_far.number in omega arith;
+      regions_are =
+          (λ j. so_far.regions_are j ++ map (with_faces_in (faces_are j)) kid.graph.regions)
+          ∙ ap (λ n. kept_regions c m 0 (graphs_of done) ++ map (kept_region c m (child c m n)) kid.graph.regions) (sym len)
+          ∙ sym (ap (kept_regions c m 0) graphs ∙ regions-push c m 0 (graphs_of done) kid.graph
+          ∙ ap (λ n. kept_regions c m 0 (graphs_of done) ++ map (kept_region c m (child c m n)) kid.graph.regions) (zero-add (length (graphs_of done))));
+      edges_are = ap (λ l. l ++ kid.graph.edges) so_far.edges_are ∙ sym (ap kept_edges graphs ∙ edges-push (graphs_of done) kid.graph);
+      graphs = subst (All IsGraph) (sym graphs) (All-push IsGraph (graphs_of done) kid.graph so_far.graphs is);
+    }
+
+-- ---- faces
+
+-- the artificial faces of a node that are those of its child too
+pub faces-kept : (c : Chunking) (m kid : ℕ) → bit_and (artificial_faces c m)
+    (shared_faces (low_corner c kid) (high_corner c kid) (low_corner c m) (high_corner c m)) ≡ kept_faces c m kid
+faces-kept c m kid = ?

@@ -1,0 +1,11 @@
+pub mod EdgeCounts
+pub mod FewEdges
+pub mod AnyPast
+pub mod NamedEdges
+pub mod Planes
+pub mod FirstChild
+pub mod CrossingLayers
+pub mod AxesAcross
+pub mod KidLists
+pub mod NameSearch
+pub mod JoinedGraphs
