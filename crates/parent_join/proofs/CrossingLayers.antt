@@ -148,7 +148,7 @@ module _ (c : Chunking) (h : IsChunking c) (m : ℕ) (node : m < node_count c) (
       let place = place-voxel c.axes w h.limits below in
       each_axis (λ k. coordinate c.axes w k < length_on c.axes k) axis three place.in_x place.in_y place.in_z
 
-  low_at : (n axis : ℕ) → axis < 3 → get_or (low_corner c n) axis 0 ≡ cell_low c n axis
+  pub low_at : (n axis : ℕ) → axis < 3 → get_or (low_corner c n) axis 0 ≡ cell_low c n axis
   low_at n axis three = each_axis (λ k. get_or (low_corner c n) k 0 ≡ cell_low c n k) axis three refl refl refl
 
   pub high_at : (n axis : ℕ) → axis < 3 → get_or (high_corner c n) axis 0 ≡ cell_high c n axis

@@ -1,5 +1,5 @@
 -- The contacts of graph edges have no more edges of the grid than there are to be counted.
-use Rattle.std.proofs.Common.{◌≡◌, ◌⊎◌, inl, inr, ℕ, zero, suc, ◌+◌, ◌*◌, ◌^◌, ◌<◌, ◌≤◌, Bool, true, false, ◌&&◌, ◌||◌, List, [], ◌∷◌, ◌++◌, length, get_or, count_by, refl, sym, ap, ◌∙◌, subst, arith}
+use Rattle.std.proofs.Common.{◌≡◌, ◌≢◌, ◌⊎◌, inl, inr, ℕ, zero, suc, ◌+◌, ◌*◌, ◌^◌, ◌<◌, ◌≤◌, Bool, true, false, ◌&&◌, ◌||◌, List, [], ◌∷◌, ◌++◌, length, get_or, count_by, refl, sym, ap, ◌∙◌, subst, arith}
 use Rattle.std.specs.Prelude.{AllPairs, Contains, IsTrue}
 use Rattle.std.proofs.lemmas.Bool.{and_parts}
 use Rattle.std.proofs.lemmas.Bool.Decides.{nat_tests}
@@ -13,12 +13,14 @@ use Rattle.agglo_model.specs.PairOrder.{most_edges}
 use Rattle.agglo_model.specs.Contacts.{are, differ, edge_numbers, joins, lower_label, higher_label, is_contact_edge, total}
 use Rattle.agglo_model.specs.Cutting.{Chunking, IsChunking, node_count, level_of, child_count, child}
 use Rattle.agglo_model.specs.Freezing.{is_inside}
+use Rattle.agglo_model.specs.Work.{IsPassed}
 use Rattle.agglo_model.specs.RegionGraph.{GraphEdge, RegionGraph, IsGraphOfNames, StandsBefore, between_inside, grid_edges, residue_of}
 use Rattle.agglo_model.specs.Joining.{edges_inside, is_crossing, kept_edges}
+use Rattle.agglo_model.proofs.Members.{All-from_contains}
 use Rattle.region_graph.specs.Lists.{count_of}
 use Rattle.work_laws.proofs.Tests.{both_apart}
 use Rattle.work_laws.proofs.ChildEdges.{inside_from, children_apart, crossing_apart, inside_or_crossing}
-use Rattle.parent_join.specs.Kids.{ResiduesHaveFewEdges}
+use Rattle.parent_join.specs.Kids.{ResiduesFit}
 use Rattle.parent_join.proofs.EdgeCounts.{count-both, apart_counts}
 
 -- ---- edges between different names
@@ -65,15 +67,18 @@ pairs_count g labels test es ascend ordered each =
 
 -- ---- graphs of names
 
-pub few_inside : (Keeps : ℕ → Type 0) (g : Grid) (c : Chunking) (m : ℕ) (labels : List ℕ) (graph : RegionGraph)
+few_inside : (Keeps : ℕ → Type 0) (g : Grid) (c : Chunking) (m : ℕ) (labels : List ℕ) (graph : RegionGraph)
     → IsGraphOfNames Keeps g c m labels graph → grid_edges graph ≤ edges_inside g c m
 few_inside Keeps g c m labels graph is =
     pairs_count g labels (is_inside c m) graph.edges is.graph_is.edges_ascend is.graph_is.ordered (λ e inside.
     let contact = (is.edges e).0 inside in
     let same = ap (λ d. d.count) contact.4 in omega arith)
 
-pub residues_have_few : ResiduesHaveFewEdges
-residues_have_few g t c m labels graph is = few_inside _ g c m labels graph is
+pub residues_fit : ResiduesFit
+residues_fit g t c m labels graph is = record {
+  named = All-from_contains (λ r. r.name ≢ 0) graph.regions (λ r inside. ((is.regions r).0 inside).0);
+  few = few_inside (IsPassed g t c m labels) g c m labels graph is;
+}
 
 -- ---- all children, and the edges between them
 

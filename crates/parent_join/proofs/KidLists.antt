@@ -1,10 +1,10 @@
 -- The lists of regions and edges of a node's children, child by child.
-use Rattle.std.proofs.Common.{◌≡◌, ℕ, zero, suc, ◌+◌, ◌<◌, List, [], ◌∷◌, ◌++◌, length, get_or, take, refl, sym, ap, ◌∙◌, subst, append_assoc, arith}
-use Rattle.std.specs.Prelude.{All, Contains, bit_and, map}
-use Rattle.std.proofs.lemmas.List.{append-nil, map-append, take_more}
-use Rattle.std.proofs.lemmas.List.Elements.{Contains-push_cases}
-use Rattle.agglo_model.specs.Cutting.{Chunking, low_corner, high_corner, cell_low, cell_high, is_low_artificial, is_high_artificial, artificial_faces, face_bits, child}
-use Rattle.agglo_model.specs.RegionGraph.{Region, RegionGraph, IsGraph}
+use Rattle.std.proofs.Common.{◌≡◌, ℕ, zero, suc, ◌+◌, ◌<◌, List, [], ◌∷◌, ◌++◌, length, get_or, ◌==◌, zero-add, refl, sym, ap, ◌∙◌, subst, append_assoc, arith}
+use Rattle.std.specs.Prelude.{All, bit_and, map}
+use Rattle.std.proofs.lemmas.List.{append-nil, length_push, length-map, map-append}
+use Rattle.std.proofs.lemmas.List.Elements.{All-push}
+use Rattle.agglo_model.specs.Cutting.{Chunking, low_corner, high_corner, is_low_artificial, is_high_artificial, artificial_faces, child}
+use Rattle.agglo_model.specs.RegionGraph.{Region, GraphEdge, RegionGraph, IsGraph}
 use Rattle.agglo_model.specs.Joining.{kept_edges, kept_faces, kept_region, kept_regions}
 use Rattle.region_graph.specs.declared.graph.Residue.{Residue}
 use Rattle.work_laws.proofs.FaceBits.{and_faces}
@@ -71,4 +71,7 @@ gathered_more c m i done regions edges kid faces so_far is faces_are =
 -- the artificial faces of a node that are those of its child too
 pub faces-kept : (c : Chunking) (m kid : ℕ) → bit_and (artificial_faces c m)
     (shared_faces (low_corner c kid) (high_corner c kid) (low_corner c m) (high_corner c m)) ≡ kept_faces c m kid
-faces-kept c m kid = ?
+faces-kept c m kid =
+    and_faces (is_low_artificial c m) (is_high_artificial c m)
+    (λ axis. get_or (low_corner c kid) axis 0 == get_or (low_corner c m) axis 0)
+    (λ axis. get_or (high_corner c kid) axis 0 == get_or (high_corner c m) axis 0)

@@ -6,6 +6,7 @@ pub mod Planes
 pub mod FirstChild
 pub mod CrossingLayers
 pub mod AxesAcross
+pub mod ChildEnds
 pub mod KidLists
 pub mod NameSearch
 pub mod JoinedGraphs

@@ -1,17 +1,13 @@
 -- The edges of a list whose names are both those of regions.
-use Rattle.std.proofs.Common.{◌≡◌, ◌⊎◌, inl, inr, ℕ, ◌+◌, Bool, true, false, cond, ◌&&◌, List, [], ◌∷◌, ◌++◌, get_or, take, length, ◌<◌, refl, sym, ap, ◌∙◌, subst, append_assoc}
-use Rattle.std.specs.Prelude.{Contains, filter}
-use Rattle.std.proofs.lemmas.Bool.{cases_Bool, false≢true}
-use Rattle.std.proofs.lemmas.List.{take_more}
-use Rattle.std.proofs.lemmas.List.Elements.{filter-append}
+use Rattle.std.proofs.Common.{◌≡◌, ◌⊎◌, inl, inr, ℕ, Bool, true, false, cond, ◌&&◌, List, [], ◌∷◌, refl, sym, ap, ◌∙◌}
+use Rattle.std.specs.Prelude.{filter}
+use Rattle.std.proofs.lemmas.Bool.{false≢true}
 use Rattle.agglo_model.specs.PairOrder.{Contact, added}
 use Rattle.agglo_model.specs.RegionGraph.{Region, GraphEdge, is_between, no_contact, contact_in}
 use Rattle.agglo_model.specs.Joining.{is_named}
 use Rattle.agglo_model.proofs.GraphContacts.{joint, contact_in-is}
 use Rattle.agglo_model.proofs.GraphEdges.{between_names}
 use Rattle.parent_join.specs.Across.{are_named}
-
--- ---- contacts
 
 filter_step : (past : ℕ) (p : GraphEdge → Bool) (t b : Bool) (e : GraphEdge) (kept : List GraphEdge) (all : Contact)
     → (p e ≡ true → t ≡ b) → joint past p kept ≡ cond b all (no_contact past)
@@ -60,21 +56,3 @@ contact_in-named past x y regions es =
     ∙ joint-filter past (is_between x y) (are_named regions) (is_named regions x && is_named regions y) es
     (λ e pass. both_swapped regions x y e.a e.b (between_names x y e pass))
     ∙ ap (λ d. cond (is_named regions x && is_named regions y) d (no_contact past)) (sym (contact_in-is past x y es))
-
--- ---- one edge after another
-
-filtered_one : (regions : List Region) (e : GraphEdge) (b : Bool) → are_named regions e ≡ b
-    → filter (are_named regions) (e ∷ []) ≡ cond b (e ∷ []) []
-filtered_one regions e b is = ap (λ t. cond t (e ∷ []) []) is
-
-pub filtered_more : (regions : List Region) (start es now after : List GraphEdge) (k : ℕ) (e : GraphEdge) (b : Bool)
-    → k < length es → e ≡ get_or es k e → are_named regions e ≡ b → after ≡ now ++ cond b (e ∷ []) []
-    → now ≡ start ++ filter (are_named regions) (take k es)
-    → after ≡ start ++ filter (are_named regions) (take (k + 1) es)
-filtered_more regions start es now after k e b below here is gained so_far =
-    let p = are_named regions in
-    gained
-    ∙ (λ i. so_far i ++ sym (filtered_one regions e b is) i)
-    ∙ append_assoc start (filter p (take k es)) (filter p (e ∷ []))
-    ∙ ap (λ l. start ++ l) (sym (filter-append p (take k es) (e ∷ []))
-    ∙ ap (filter p) (ap (λ f. take k es ++ f ∷ []) here ∙ sym (take_more es k e below)))

@@ -1,4 +1,4 @@
--- The graphs of the children of a node, how many edges of the grid their contacts have, and the faces that are kept.
+-- The graphs of the children of a node, what is known of each, and the faces that are kept.
 use Rattle.std.specs.Prelude.{ℕ, ◌<◌, ◌≤◌, ◌==◌, List, length, map, bit_and, slice_index}
 use Rattle.agglo_model.specs.Grid.{Grid}
 use Rattle.agglo_model.specs.PairOrder.{Threshold}
@@ -6,19 +6,24 @@ use Rattle.agglo_model.specs.Cutting.{Chunking, child, face_bits}
 use Rattle.agglo_model.specs.RegionGraph.{Region, RegionGraph, IsResidue, grid_edges, residue_of}
 use Rattle.agglo_model.specs.Joining.{edges_inside}
 use Rattle.region_graph.specs.declared.graph.Residue.{Residue}
+use Rattle.region_graph.specs.Lists.{AreNamed}
 
 abbrev pub graphs_of : List Residue → List RegionGraph
 graphs_of kids = map (λ kid. kid.graph) kids
 
--- the contacts of each graph have at most as many edges of the grid as lie inside the cell of its child of node m
-abbrev pub HaveFewEdges : Grid → Chunking → ℕ → List RegionGraph → Type 0
-HaveFewEdges g c m graphs = (i : ℕ) → i < length graphs
-    → grid_edges (residue_of graphs i) ≤ edges_inside g c (child c m i)
+-- no name is background, and the contacts have at most as many edges of the grid as lie inside the cell of node m
+pub record FitsInto (g : Grid) (c : Chunking) (m : ℕ) (graph : RegionGraph) : Type 0 where
+  pub named : AreNamed graph.regions
+  pub few : grid_edges graph ≤ edges_inside g c m
 
--- the contacts of a node's residue have at most as many edges of the grid as lie inside its cell
-abbrev pub ResiduesHaveFewEdges : Type 0
-ResiduesHaveFewEdges = (g : Grid) (t : Threshold) (c : Chunking) (m : ℕ) (labels : List ℕ) (graph : RegionGraph)
-    → IsResidue g t c m labels graph → grid_edges graph ≤ edges_inside g c m
+-- so it is of the graph of each child of node m
+abbrev pub KidsFit : Grid → Chunking → ℕ → List RegionGraph → Type 0
+KidsFit g c m graphs = (i : ℕ) → i < length graphs → FitsInto g c (child c m i) (residue_of graphs i)
+
+-- the residue of a node fits into its cell
+abbrev pub ResiduesFit : Type 0
+ResiduesFit = (g : Grid) (t : Threshold) (c : Chunking) (m : ℕ) (labels : List ℕ) (graph : RegionGraph)
+    → IsResidue g t c m labels graph → FitsInto g c m graph
 
 -- a region with those of its faces that are in this set
 abbrev pub with_faces_in : ℕ → Region → Region

@@ -1,7 +1,7 @@
 ghost use Rattle.std.specs.Prelude.{◌≡◌, ◌<◌, IfOk, length};
 ghost use Rattle.agglo_model.specs.Cutting.{child_count, node_count};
 ghost use Rattle.agglo_model.specs.Joining.{IsJoined};
-ghost use Rattle.parent_join.specs.Kids.{HaveFewEdges, graphs_of};
+ghost use Rattle.parent_join.specs.Kids.{KidsFit, graphs_of};
 
 use crate::across::{add_named, gather_across};
 use crate::kids::gather_kids;
@@ -16,7 +16,7 @@ pub fn join(alloc: Global, site: &Site, m: u32, kids: Vec<Residue>) -> Result<Gr
     requires node { m < node_count site.now.cutting }
     requires parent { 0 < child_count site.now.cutting m }
     requires one_each { length kids.items ≡ child_count site.now.cutting m }
-    requires few { HaveFewEdges site.now.grid site.now.cutting m (graphs_of kids.items) }
+    requires fit { KidsFit site.now.grid site.now.cutting m (graphs_of kids.items) }
     ensures { IfOk result (λ graph. IsJoined site.now.grid site.now.cutting m site.now.labels (graphs_of kids.items) graph) }
 {
     let Parts { regions, mut edges } = gather_kids(alloc, site, m, kids)?;

@@ -1,7 +1,7 @@
-ghost use Rattle.parent_join.specs.Kids.{ResiduesHaveFewEdges};
+ghost use Rattle.parent_join.specs.Kids.{ResiduesFit};
 
-/// The contacts of a node's residue have at most as many edges of the grid as lie inside the node's cell.
-/// So the residues of a node's children are few enough to be joined.
-pub fn residues_have_few_edges()
-    ensures { ResiduesHaveFewEdges }
+/// The residue of a node fits into the node's cell: none of its names is background, and its contacts have at
+/// most as many edges of the grid as lie inside the cell. So the residues of a node's children can be joined.
+pub fn residues_fit()
+    ensures { ResiduesFit }
 {}

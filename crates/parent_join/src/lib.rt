@@ -10,4 +10,4 @@ mod kids;
 mod laws;
 
 pub use joining::join;
-pub use laws::residues_have_few_edges;
+pub use laws::residues_fit;
