@@ -1,9 +1,11 @@
 -- The lists of regions and edges of a node's children, child by child.
-use Rattle.std.proofs.Common.{◌≡◌, ℕ, zero, suc, ◌+◌, ◌<◌, List, [], ◌∷◌, ◌++◌, length, get_or, ◌==◌, zero-add, refl, sym, ap, ◌∙◌, subst, append_assoc, arith}
+use Rattle.std.proofs.Common.{◌≡◌, ℕ, suc, ◌+◌, ◌*◌, ◌≤◌, Bool, true, false, cond, List, [], ◌∷◌, ◌++◌, length, get_or, ◌==◌, zero-add, refl, sym, ap, ◌∙◌, subst, append_assoc, arith}
 use Rattle.std.specs.Prelude.{All, bit_and, map}
+use Rattle.std.proofs.Math.Nat.{mul-le-mul}
 use Rattle.std.proofs.lemmas.List.{append-nil, length_push, length-map, map-append}
 use Rattle.std.proofs.lemmas.List.Elements.{All-push}
-use Rattle.agglo_model.specs.Cutting.{Chunking, low_corner, high_corner, is_low_artificial, is_high_artificial, artificial_faces, child}
+use Rattle.agglo_model.specs.Axes.{voxel_count}
+use Rattle.agglo_model.specs.Cutting.{Chunking, low_corner, high_corner, is_low_artificial, is_high_artificial, artificial_faces, level_of, children_on, children_grid, child_count, child}
 use Rattle.agglo_model.specs.RegionGraph.{Region, GraphEdge, RegionGraph, IsGraph}
 use Rattle.agglo_model.specs.Joining.{kept_edges, kept_faces, kept_region, kept_regions}
 use Rattle.region_graph.specs.declared.graph.Residue.{Residue}
@@ -75,3 +77,16 @@ faces-kept c m kid =
     and_faces (is_low_artificial c m) (is_high_artificial c m)
     (λ axis. get_or (low_corner c kid) axis 0 == get_or (low_corner c m) axis 0)
     (λ axis. get_or (high_corner c kid) axis 0 == get_or (high_corner c m) axis 0)
+
+-- ---- how many children there are
+
+none_or_few : (b : Bool) (n : ℕ) → n ≤ 8 → cond b 0 n ≤ 8
+none_or_few true n few = omega arith
+none_or_few false n few = few
+
+pub few_children : (c : Chunking) (m : ℕ) → child_count c m ≤ 8
+few_children c m = none_or_few (level_of c m == 0) (voxel_count (children_grid c m))
+    (two_each (children_on c m 0) (children_on c m 1) (children_on c m 2) (omega arith) (omega arith) (omega arith))
+  where
+    two_each : (x y z : ℕ) → x ≤ 2 → y ≤ 2 → z ≤ 2 → x * y * z ≤ 8
+    two_each x y z few_x few_y few_z = omega (arith, mul-le-mul (mul-le-mul few_x few_y) few_z)
