@@ -1,25 +1,28 @@
 -- Lists that were gathered of a node's children and across the faces between them make its joined graph.
-use Rattle.std.proofs.Common.{◌≡◌, ◌≢◌, ◌⊎◌, inl, inr, ℕ, suc, ◌+◌, ◌<◌, ◌≤◌, Bool, true, false, cond, ◌&&◌, IsTrue, List, [], ◌∷◌, ◌++◌, length, get_or, refl, sym, ap, ◌∙◌, subst, arith}
+use Rattle.std.proofs.Common.{◌≡◌, ◌≢◌, ◌⊎◌, inl, inr, ℕ, suc, ◌+◌, ◌<◌, ◌≤◌, Bool, true, false, cond, not, ◌&&◌, IsTrue, List, [], ◌∷◌, ◌++◌, length, count_by, refl, sym, ap, ◌∙◌, subst, arith}
 use Rattle.std.specs.Prelude.{All, AllPairs, Contains, filter}
 use Rattle.std.proofs.lemmas.Bool.{cases_Bool, and_parts, and_from, false≢true}
-use Rattle.std.proofs.lemmas.List.Elements.{All-contains, Contains-append_cases}
-use Rattle.agglo_model.specs.Axes.{edge_count}
+use Rattle.std.proofs.lemmas.List.Elements.{All-append, All-contains, All-filter, Contains-append_cases}
+use Rattle.std.proofs.lemmas.List.Filters.{sum_by-filter_both}
+use Rattle.agglo_model.specs.Axes.{IsWithinLimits, edge_count, is_edge}
 use Rattle.agglo_model.specs.Grid.{Grid}
-use Rattle.agglo_model.specs.PairOrder.{Contact, added}
-use Rattle.agglo_model.specs.Contacts.{joins, total}
-use Rattle.agglo_model.specs.Cutting.{Chunking, child}
+use Rattle.agglo_model.specs.PairOrder.{Contact, added, most_edges}
+use Rattle.agglo_model.specs.Contacts.{edge_numbers, joins, total}
+use Rattle.agglo_model.specs.Cutting.{Chunking, IsChunking, node_count, level_of, child_count, child}
 use Rattle.agglo_model.specs.RegionGraph.{Region, GraphEdge, RegionGraph, IsGraph, HasRegion, StandsBefore, is_between, no_contact, contact_in, residue_of}
 use Rattle.agglo_model.specs.Joining.{IsJoined, or_none, between_children, is_crossing, is_named, joined_faces, kept_edges, kept_region, kept_regions}
 use Rattle.agglo_model.proofs.GraphContacts.{same_contact, joint-count, joint-none, contact_in-is, contact_in-append, contact_in-tie-le, added-none}
 use Rattle.agglo_model.proofs.GraphEdges.{between_itself, between_names}
 use Rattle.agglo_model.proofs.Members.{contains_none, All-from_contains}
 use Rattle.agglo_model.proofs.Totals.{total-tie}
-use Rattle.region_graph.specs.Lists.{AreNamed, AreOrdered, AreTouching, SameContacts, SameRegions, faces_in}
+use Rattle.region_graph.specs.Lists.{AreNamed, AreOrdered, AreTouching, SameContacts, SameRegions, count_of, faces_in}
 use Rattle.region_graph.proofs.CellGraphs.{faces_of}
 use Rattle.work_laws.proofs.AddedContacts.{listed}
 use Rattle.work_laws.proofs.KeptRegions.{kept_from, from_kept, named_region, region_named}
 use Rattle.parent_join.specs.Across.{across, are_named}
+use Rattle.parent_join.specs.Kids.{KidsFit}
 use Rattle.parent_join.proofs.AnyPast.{contact_at}
+use Rattle.parent_join.proofs.FewEdges.{pairs_count, all_count}
 use Rattle.parent_join.proofs.NamedEdges.{contact_in-named}
 
 -- ---- the names of the children
@@ -196,3 +199,87 @@ kept_named c m kids named = All-from_contains (λ r. r.name ≢ 0) (kept_regions
 -- what holds of each graph of a list
 pub graphs_at : (kids : List RegionGraph) → All IsGraph kids → AreGraphs kids
 graphs_at kids all k below = all k (record { regions = []; edges = [] }) below
+
+-- ---- how many edges there are
+
+-- some edges of a list have no more edges of the grid than all
+filter-count : (p : GraphEdge → Bool) (es : List GraphEdge) → count_of (filter p es) ≤ count_of es
+filter-count p es =
+    let both = sum_by-filter_both p (λ e. not (p e)) (λ e. refl) (λ (e : GraphEdge). e.contact.count) es in
+    omega (arith, both)
+
+-- the edges from child to child, summed up in order, have no more edges of the grid than cross there
+across_count : (g : Grid) (c : Chunking) (m : ℕ) (labels : List ℕ) (es : List GraphEdge) → AreAcross g c m labels es
+    → AllPairs StandsBefore es → AreOrdered es
+    → count_of es ≤ count_by (λ k. is_edge g.axes k && is_crossing c m k) (edge_numbers g)
+across_count g c m labels es are ascend ordered =
+    pairs_count g labels (is_crossing c m) es ascend (λ e inside. All-contains (λ f. f.a < f.b) es e ordered inside)
+    (λ e inside.
+    let n = edge_count g.axes in
+    let more = joint-count n (is_between e.a e.b) es e inside (between_itself e) in
+    subst (λ d. e.contact.count ≤ d.count) (sym (contact_in-is n e.a e.b es) ∙ are.contacts e.a e.b) more)
+
+kids_ordered : (kids : List RegionGraph) → AreGraphs kids → AreOrdered (kept_edges kids)
+kids_ordered kids graphs = All-from_contains (λ e. e.a < e.b) (kept_edges kids) (λ e inside.
+    let found = kid_edge kids e inside in
+    (graphs found.0 found.1).ordered e found.2)
+
+-- the edges of the children, and those of the named ones from child to child
+module _ (g : Grid) (c : Chunking) (h : IsChunking c) (m : ℕ) (node : m < node_count c) (inner : 0 < level_of c m) (labels : List ℕ)
+    (kids : List RegionGraph) (regions : List Region) (crossing : List GraphEdge) where
+  pub all_ordered : AreGraphs kids → AreOrdered crossing → AreOrdered (kept_edges kids ++ filter (are_named regions) crossing)
+  all_ordered graphs ordered =
+      All-append (λ (e : GraphEdge). e.a < e.b) (kept_edges kids) (filter (are_named regions) crossing)
+      (kids_ordered kids graphs) (All-filter (are_named regions) (λ (e : GraphEdge). e.a < e.b) crossing ordered)
+
+  pub all_few : IsWithinLimits g.axes → length kids ≡ child_count c m → KidsFit g c m kids → AreAcross g c m labels crossing
+      → AllPairs StandsBefore crossing → AreOrdered crossing
+      → count_of (kept_edges kids ++ filter (are_named regions) crossing) ≤ most_edges
+  all_few limits one_each fit across_are ascend ordered =
+      let across_few = across_count g c m labels crossing across_are ascend ordered in
+      let fewer = filter-count (are_named regions) crossing in
+      all_count c h m node inner g kids (filter (are_named regions) crossing) limits one_each (λ k below. (fit k below).few)
+      (omega (arith, across_few, fewer))
+
+-- ---- from list to list
+
+-- the lists before they are put in order: the regions and edges of the children, and the edges from child to child
+pub record AreFound (g : Grid) (c : Chunking) (m : ℕ) (labels : List ℕ) (kids : List RegionGraph) (regions : List Region)
+    (edges crossing : List GraphEdge) : Type 0 where
+  pub graphs : AreGraphs kids
+  pub regions_are : regions ≡ kept_regions c m 0 kids
+  pub edges_are : edges ≡ kept_edges kids
+  pub contacts : (x y : ℕ) → contact_in (edge_count g.axes) crossing x y ≡ across g c m labels x y
+
+-- edges in order
+pub record AreSummed (edges : List GraphEdge) : Type 0 where
+  pub ascend : AllPairs StandsBefore edges
+  pub ordered : AreOrdered edges
+  pub touching : AreTouching edges
+
+pub found_across : (g : Grid) (c : Chunking) (m : ℕ) (labels : List ℕ) (kids : List RegionGraph) (raw : List Region)
+    (start raw_crossing crossing : List GraphEdge) → AreFound g c m labels kids raw start raw_crossing
+    → SameContacts raw_crossing crossing → AreTouching crossing → AreAcross g c m labels crossing
+found_across g c m labels kids raw start raw_crossing crossing found same touching = record {
+  touching = touching;
+  contacts = λ x y. same (edge_count g.axes) x y ∙ found.contacts x y;
+}
+
+pub found_joined : (g : Grid) (c : Chunking) (m : ℕ) (labels : List ℕ) (kids : List RegionGraph) (raw regions : List Region)
+    (start raw_crossing crossing all edges : List GraphEdge) → AreFound g c m labels kids raw start raw_crossing
+    → AllPairs (λ r s. r.name < s.name) regions → SameRegions raw regions
+    → SameContacts raw_crossing crossing → AreTouching crossing
+    → all ≡ start ++ filter (are_named regions) crossing → SameContacts all edges → AreSummed edges
+    → AreJoined g c m labels kids crossing regions edges
+found_joined g c m labels kids raw regions start raw_crossing crossing all edges found ascend same_regions same_crossing touching
+    all_is same_edges summed = record {
+      graphs = found.graphs;
+      across_are = found_across g c m labels kids raw start raw_crossing crossing found same_crossing touching;
+      regions_ascend = ascend;
+      same_regions = subst (λ rs. SameRegions rs regions) found.regions_are same_regions;
+      edges_ascend = summed.ascend;
+      ordered = summed.ordered;
+      touching = summed.touching;
+      same_contacts = subst (λ es. SameContacts es edges) (all_is ∙ ap (λ es. es ++ filter (are_named regions) crossing) found.edges_are)
+          same_edges;
+    }
