@@ -20,7 +20,7 @@ use Rattle.agglo_model.proofs.Members.{All-from_contains}
 use Rattle.region_graph.specs.Lists.{count_of}
 use Rattle.work_laws.proofs.Tests.{both_apart}
 use Rattle.work_laws.proofs.ChildEdges.{inside_from, children_apart, crossing_apart, inside_or_crossing}
-use Rattle.parent_join.specs.Kids.{ResiduesFit}
+use Rattle.parent_join.specs.Kids.{FitsInto, ResiduesFit}
 use Rattle.parent_join.proofs.EdgeCounts.{count-both, apart_counts}
 
 -- ---- edges between different names
@@ -67,18 +67,17 @@ pairs_count g labels test es ascend ordered each =
 
 -- ---- graphs of names
 
-few_inside : (Keeps : ℕ → Type 0) (g : Grid) (c : Chunking) (m : ℕ) (labels : List ℕ) (graph : RegionGraph)
-    → IsGraphOfNames Keeps g c m labels graph → grid_edges graph ≤ edges_inside g c m
-few_inside Keeps g c m labels graph is =
-    pairs_count g labels (is_inside c m) graph.edges is.graph_is.edges_ascend is.graph_is.ordered (λ e inside.
-    let contact = (is.edges e).0 inside in
-    let same = ap (λ d. d.count) contact.4 in omega arith)
+pub names_fit : (Keeps : ℕ → Type 0) (g : Grid) (c : Chunking) (m : ℕ) (labels : List ℕ) (graph : RegionGraph)
+    → IsGraphOfNames Keeps g c m labels graph → FitsInto g c m graph
+names_fit Keeps g c m labels graph is = record {
+  named = All-from_contains (λ r. r.name ≢ 0) graph.regions (λ r inside. ((is.regions r).0 inside).0);
+  few = pairs_count g labels (is_inside c m) graph.edges is.graph_is.edges_ascend is.graph_is.ordered (λ e inside.
+      let contact = (is.edges e).0 inside in
+      let same = ap (λ d. d.count) contact.4 in omega arith);
+}
 
 pub residues_fit : ResiduesFit
-residues_fit g t c m labels graph is = record {
-  named = All-from_contains (λ r. r.name ≢ 0) graph.regions (λ r inside. ((is.regions r).0 inside).0);
-  few = few_inside (IsPassed g t c m labels) g c m labels graph is;
-}
+residues_fit g t c m labels graph is = names_fit (IsPassed g t c m labels) g c m labels graph is
 
 -- ---- all children, and the edges between them
 

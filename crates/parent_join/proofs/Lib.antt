@@ -10,3 +10,4 @@ pub mod ChildEnds
 pub mod KidLists
 pub mod NameSearch
 pub mod JoinedGraphs
+pub mod KidPushes

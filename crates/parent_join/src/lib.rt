@@ -8,6 +8,8 @@ mod across;
 mod joining;
 mod kids;
 mod laws;
+#[cfg(test)]
+mod tests;
 
 pub use joining::join;
 pub use laws::residues_fit;
