@@ -1,14 +1,14 @@
 -- The edges that cross from child to child of a node: their higher ends lie where the first child's range ends on
 -- their axis.
-use Rattle.std.proofs.Common.{◌≡◌, ◌≢◌, inl, inr, ℕ, ◌+◌, ◌*◌, ◌-◌, ◌/◌, ◌%◌, ◌<◌, ◌≤◌, ◌==◌, min, Bool, true, false, not, cond, ◌&&◌, eqb, ltb, get_or, refl, sym, ap, ◌∙◌, subst, arith}
+use Rattle.std.proofs.Common.{◌≡◌, ◌≢◌, inl, inr, ℕ, ◌+◌, ◌*◌, ◌-◌, ◌/◌, ◌%◌, ◌<◌, ◌≤◌, ◌==◌, true, not, ◌&&◌, eqb, ltb, get_or, refl, sym, ap, ◌∙◌, subst, arith}
 use Rattle.std.specs.Prelude.{IsTrue}
 use Rattle.std.proofs.Math.Nat.{div-div-eq-div-mul, mul-le-mul_right}
-use Rattle.std.proofs.lemmas.Bool.{cases_Bool, cases_lt, and_parts, and_from, eqb-true, eq-eqb, ltb-true, lt-ltb, not-true, not_from_false, false≢true}
-use Rattle.agglo_model.specs.Axes.{IsWithinLimits, IsPlace, voxel_count, voxel_at, coordinate, is_edge, lower_end, higher_end}
-use Rattle.agglo_model.specs.Cutting.{Chunking, IsChunking, length_on, cell_length, cells_on, level_grid, first_node, node_count, level_of, cell_place, cell_low, cell_high, low_corner, high_corner, node_at, child_count, child}
+use Rattle.std.proofs.lemmas.Bool.{cases_Bool, cases_lt, and_parts, and_from, eqb-true, eq-eqb, lt-ltb, not-true, not_from_false, false≢true}
+use Rattle.agglo_model.specs.Axes.{voxel_count, voxel_at, coordinate, is_edge, lower_end, higher_end}
+use Rattle.agglo_model.specs.Cutting.{Chunking, IsChunking, length_on, cell_length, level_grid, first_node, node_count, level_of, cell_place, cell_low, cell_high, low_corner, high_corner, node_at, child_count, child}
 use Rattle.agglo_model.specs.Freezing.{is_held, is_inside}
 use Rattle.agglo_model.specs.Joining.{is_crossing}
-use Rattle.agglo_model.proofs.CellBoxes.{IsAtPlace, node-coordinates}
+use Rattle.agglo_model.proofs.CellBoxes.{node-coordinates}
 use Rattle.agglo_model.proofs.Edges.{each_axis, higher_end_below, lower_below_higher}
 use Rattle.agglo_model.proofs.Freezing.{held_voxel, held_node}
 use Rattle.agglo_model.proofs.Levels.{cell_length_pos}
@@ -16,9 +16,8 @@ use Rattle.agglo_model.proofs.NodeCells.{voxel_cell}
 use Rattle.agglo_model.proofs.Places.{place-voxel, coordinate-voxel_at_x, coordinate-voxel_at_y, coordinate-voxel_at_z}
 use Rattle.region_graph.specs.Boxes.{in_box}
 use Rattle.region_graph.proofs.InsideEdges.{IsBelowOn, lower_below, inside_is}
-use Rattle.region_graph.proofs.Layers.{above_in, cell_held}
-use Rattle.region_graph.proofs.VoxelTests.{same_tests, in_box-is}
-use Rattle.work_laws.proofs.Tests.{same_where}
+use Rattle.region_graph.proofs.Layers.{above_in}
+use Rattle.region_graph.proofs.VoxelTests.{same_tests}
 use Rattle.parent_join.proofs.FirstChild.{longer, first_high, first_after}
 
 -- ---- two neighbours on an axis, and where they lie in cells of length l

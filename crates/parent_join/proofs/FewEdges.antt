@@ -1,25 +1,25 @@
 -- The contacts of graph edges have no more edges of the grid than there are to be counted.
-use Rattle.std.proofs.Common.{◌≡◌, ◌≢◌, ◌⊎◌, inl, inr, ℕ, zero, suc, ◌+◌, ◌*◌, ◌^◌, ◌<◌, ◌≤◌, Bool, true, false, ◌&&◌, ◌||◌, List, [], ◌∷◌, ◌++◌, length, get_or, count_by, refl, sym, ap, ◌∙◌, subst, arith}
-use Rattle.std.specs.Prelude.{AllPairs, Contains, IsTrue}
+use Rattle.std.proofs.Common.{◌≡◌, ◌≢◌, inl, inr, ℕ, suc, ◌+◌, ◌<◌, ◌≤◌, Bool, true, false, ◌&&◌, ◌||◌, List, [], ◌∷◌, ◌++◌, length, get_or, count_by, refl, ap, ◌∙◌, subst, arith}
+use Rattle.std.specs.Prelude.{AllPairs, Contains}
 use Rattle.std.proofs.lemmas.Bool.{and_parts}
 use Rattle.std.proofs.lemmas.Bool.Decides.{nat_tests}
 use Rattle.std.proofs.lemmas.List.Elements.{Contains-get_or}
 use Rattle.std.proofs.lemmas.List.FromFn.{length-range_with_len}
 use Rattle.std.proofs.lemmas.List.Sums.{sum_by-append, count_by-le-length}
 use mathlib.Core.Path.{fun_ext}
-use Rattle.agglo_model.specs.Axes.{Axes, IsWithinLimits, edge_count, is_edge}
+use Rattle.agglo_model.specs.Axes.{IsWithinLimits, edge_count, is_edge}
 use Rattle.agglo_model.specs.Grid.{Grid}
 use Rattle.agglo_model.specs.PairOrder.{most_edges}
-use Rattle.agglo_model.specs.Contacts.{are, differ, edge_numbers, joins, lower_label, higher_label, is_contact_edge, total}
+use Rattle.agglo_model.specs.Contacts.{are, edge_numbers, joins, lower_label, higher_label, is_contact_edge, total}
 use Rattle.agglo_model.specs.Cutting.{Chunking, IsChunking, node_count, level_of, child_count, child}
 use Rattle.agglo_model.specs.Freezing.{is_inside}
 use Rattle.agglo_model.specs.Work.{IsPassed}
-use Rattle.agglo_model.specs.RegionGraph.{GraphEdge, RegionGraph, IsGraphOfNames, StandsBefore, between_inside, grid_edges, residue_of}
+use Rattle.agglo_model.specs.RegionGraph.{GraphEdge, RegionGraph, IsGraphOfNames, StandsBefore, grid_edges, residue_of}
 use Rattle.agglo_model.specs.Joining.{edges_inside, is_crossing, kept_edges}
 use Rattle.agglo_model.proofs.Members.{All-from_contains}
 use Rattle.region_graph.specs.Lists.{count_of}
 use Rattle.work_laws.proofs.Tests.{both_apart}
-use Rattle.work_laws.proofs.ChildEdges.{inside_from, children_apart, crossing_apart, inside_or_crossing}
+use Rattle.work_laws.proofs.ChildEdges.{inside_from, children_apart, crossing_apart}
 use Rattle.parent_join.specs.Kids.{FitsInto, ResiduesFit}
 use Rattle.parent_join.proofs.EdgeCounts.{count-both, apart_counts}
 

@@ -1,7 +1,7 @@
 -- The first child of a node begins where the node does, and ends at half of its length or where the node ends.
-use Rattle.std.proofs.Common.{◌≡◌, ℕ, suc, ◌+◌, ◌*◌, ◌-◌, ◌/◌, ◌%◌, ◌<◌, ◌≤◌, min, ap, sym, ◌∙◌, subst, arith}
+use Rattle.std.proofs.Common.{◌≡◌, ℕ, suc, ◌+◌, ◌*◌, ◌-◌, ◌%◌, ◌<◌, ◌≤◌, min, ap, sym, ◌∙◌, subst, arith}
 use Rattle.std.specs.Int.{div_ceil}
-use Rattle.std.proofs.Math.Nat.{zero-div, zero-mod, div-div-eq-div-mul, pow-suc, mul-le-mul_left}
+use Rattle.std.proofs.Math.Nat.{zero-div, zero-mod, pow-suc}
 use Rattle.agglo_model.specs.Axes.{Axes, IsPlace, voxel_at, coordinate}
 use Rattle.agglo_model.specs.Cutting.{Chunking, IsChunking, length_on, cell_length, cells_on, level_grid, first_node, node_count, level_of, cell_place, cell_low, cell_high, children_grid, child_count, child}
 use Rattle.agglo_model.proofs.Edges.{each_axis}

@@ -1,5 +1,5 @@
 -- Lists that were gathered of a node's children and across the faces between them make its joined graph.
-use Rattle.std.proofs.Common.{◌≡◌, ◌≢◌, ◌⊎◌, inl, inr, ℕ, suc, ◌+◌, ◌<◌, ◌≤◌, Bool, true, false, cond, not, ◌&&◌, IsTrue, List, [], ◌∷◌, ◌++◌, length, count_by, refl, sym, ap, ◌∙◌, subst, arith}
+use Rattle.std.proofs.Common.{◌≡◌, ◌≢◌, ◌⊎◌, inl, inr, ℕ, suc, ◌+◌, ◌<◌, ◌≤◌, Bool, true, false, cond, not, ◌&&◌, List, [], ◌∷◌, ◌++◌, length, count_by, refl, sym, ap, ◌∙◌, subst, arith}
 use Rattle.std.specs.Prelude.{All, AllPairs, Contains, filter}
 use Rattle.std.proofs.lemmas.Bool.{cases_Bool, and_parts, and_from, false≢true}
 use Rattle.std.proofs.lemmas.List.Elements.{All-append, All-contains, All-filter, Contains-append_cases}
@@ -7,7 +7,7 @@ use Rattle.std.proofs.lemmas.List.Filters.{sum_by-filter_both}
 use Rattle.agglo_model.specs.Axes.{IsWithinLimits, edge_count, is_edge}
 use Rattle.agglo_model.specs.Grid.{Grid}
 use Rattle.agglo_model.specs.PairOrder.{Contact, added, most_edges}
-use Rattle.agglo_model.specs.Contacts.{edge_numbers, joins, total}
+use Rattle.agglo_model.specs.Contacts.{edge_numbers, joins}
 use Rattle.agglo_model.specs.Cutting.{Chunking, IsChunking, node_count, level_of, child_count, child}
 use Rattle.agglo_model.specs.RegionGraph.{Region, GraphEdge, RegionGraph, IsGraph, HasRegion, StandsBefore, is_between, no_contact, contact_in, residue_of}
 use Rattle.agglo_model.specs.Joining.{IsJoined, or_none, between_children, is_crossing, is_named, joined_faces, kept_edges, kept_region, kept_regions}

@@ -1,10 +1,10 @@
 -- One child more that fits into its cell.
-use Rattle.std.proofs.Common.{◌≡◌, inl, inr, ℕ, ◌+◌, ◌<◌, List, [], ◌∷◌, ◌++◌, length, get_or, refl, sym, ap, ◌∙◌, subst, arith}
+use Rattle.std.proofs.Common.{◌≡◌, inl, inr, ℕ, ◌+◌, List, [], ◌∷◌, ◌++◌, length, get_or, refl, sym, ◌∙◌, subst, arith}
 use Rattle.std.proofs.lemmas.Bool.{cases_lt}
 use Rattle.std.proofs.lemmas.List.{get_or_append_left, get_or_at, length_push, length-map, map-append}
 use Rattle.agglo_model.specs.Grid.{Grid}
 use Rattle.agglo_model.specs.Cutting.{Chunking, child}
-use Rattle.agglo_model.specs.RegionGraph.{RegionGraph, residue_of}
+use Rattle.agglo_model.specs.RegionGraph.{RegionGraph}
 use Rattle.region_graph.specs.declared.graph.Residue.{Residue}
 use Rattle.parent_join.specs.Kids.{FitsInto, KidsFit, graphs_of}
 

@@ -1,9 +1,8 @@
 -- The edges of the grid that cross from child to child of a node, and their contacts.
-use Rattle.std.specs.Prelude.{◌≡◌, ℕ, Bool, ◌&&◌, List, count_by, slice_set, slice_index, min, ◌+◌}
-use Rattle.agglo_model.specs.Axes.{is_edge}
+use Rattle.std.specs.Prelude.{ℕ, Bool, ◌&&◌, List, slice_set, slice_index, min, ◌+◌}
 use Rattle.agglo_model.specs.Grid.{Grid}
 use Rattle.agglo_model.specs.PairOrder.{Contact}
-use Rattle.agglo_model.specs.Contacts.{edge_numbers, joins, total}
+use Rattle.agglo_model.specs.Contacts.{joins, total}
 use Rattle.agglo_model.specs.Cutting.{Chunking}
 use Rattle.agglo_model.specs.RegionGraph.{GraphEdge}
 use Rattle.agglo_model.specs.Joining.{is_crossing, is_named}

@@ -132,12 +132,7 @@ fn a_contact_across_a_face(rt: HostRuntime) -> Result<(), Fail> {
     );
     assert_eq!(rt;
         told.edges.as_slice(),
-        [
-            [1, 3, 100, 1, 6],
-            [3, 5, 90, 1, 12],
-            [5, 7, 100, 1, 18]
-        ]
-        .as_slice()
+        [[1, 3, 100, 1, 6], [3, 5, 90, 1, 12], [5, 7, 100, 1, 18]].as_slice()
     );
     Ok(())
 }

@@ -1,10 +1,9 @@
-use Rattle.std.proofs.Common.{◌≡◌, ◌+◌, ◌*◌, ◌<◌, ◌≤◌, get_or, sym, ap, ◌∙◌, subst, arith}
+use Rattle.std.proofs.Common.{◌≡◌, ◌<◌, get_or, sym, ◌∙◌, subst, arith}
 use Rattle.agglo_model.specs.Axes.{voxel_count}
 use Rattle.agglo_model.specs.Cutting.{high_corner, child}
 use Rattle.region_graph.specs.Boxes.{IsBox, in_box}
-use Rattle.parent_join.specs.Across.{layer_to}
-use Rattle.parent_join.proofs.AxesAcross.{AreAxesCrossed, at_plane, axes-none, axes-more, axes-contacts, axes-ordered}
-use Rattle.parent_join.proofs.ChildEnds.{AreCells, cells_are, ends_within, plane_box, plane_inner, plane_in, few_axes}
+use Rattle.parent_join.proofs.AxesAcross.{AreAxesCrossed, axes-none, axes-more, axes-contacts, axes-ordered}
+use Rattle.parent_join.proofs.ChildEnds.{cells_are, ends_within, plane_box, plane_inner, plane_in, few_axes}
 use Rattle.parent_join.proofs.across.gather_across.Goals as goal
 
 pub loop-axis-init : goal.loop-axis-init

@@ -1,4 +1,4 @@
-use Rattle.std.proofs.Common.{◌≡◌, ◌∙◌}
+use Rattle.std.proofs.Common.{◌∙◌}
 use Rattle.std.specs.Prelude.{bit_and}
 use Rattle.parent_join.specs.Kids.{shared_faces}
 use Rattle.parent_join.proofs.KidLists.{faces-kept}
