@@ -1,0 +1,15 @@
+//! The graph of a node that has children, made of what these passed on: their names and contacts, and the
+//! contacts across the faces between them.
+//!
+//! It stands on `region_graph`, whose lists it gathers and sums up. The run over all nodes stands on it.
+#![tactic(auto)]
+
+mod across;
+mod joining;
+mod kids;
+mod laws;
+#[cfg(test)]
+mod tests;
+
+pub use joining::join;
+pub use laws::residues_fit;
