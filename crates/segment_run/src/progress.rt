@@ -1,0 +1,98 @@
+ghost use Rattle.std.specs.Prelude.{◌≡◌, ◌+◌, ◌≤◌, ◌<◌, ◌^◌, IfOk, length, map, slice_index_or};
+ghost use Rattle.agglo_model.specs.Cutting.{IsChunking, child_count, last_level, level_of, node_count};
+ghost use Rattle.agglo_model.specs.Report.{Level};
+ghost use Rattle.region_graph.specs.SiteView.{IsSite};
+ghost use Rattle.segment_run.specs.Turns.{AreTaken, AreThere, Counts, HasTurn, HasWorked};
+
+use crate::answer::LevelCount;
+use crate::node_work::work_node;
+use agglo_model::Memory;
+use chunk_tree::Cutting;
+use merge_tree::Merge;
+use mutual_merge::Settled;
+use region_graph::{Graph, Residue, Site};
+use std::alloc::Global;
+
+/// How far a run over the nodes has come: the residues that wait for their parents, by the numbers of their
+/// nodes, all merges so far, and what each level has done.
+#[derive(Drop)]
+pub(crate) struct Progress {
+    pub(crate) waiting: Vec<Option<Graph>>,
+    pub(crate) merges: Vec<Merge>,
+    pub(crate) levels: Vec<LevelCount>,
+}
+
+/// Works all nodes in ascending number, so that children come before their parents.
+pub(crate) fn work_all(alloc: Global, site: &Site) -> Result<Progress, Memory>
+    ensures { IfOk result (λ done. HasWorked site.now (node_count site.now.cutting) (node_count site.now.cutting)
+        done.waiting.items done.merges.items done.levels.items) }
+{
+    let cutting = site.cutting();
+    let mut progress = Progress::new(alloc, cutting.levels())?;
+    for m in 0..cutting.nodes() {
+        progress.work_next(alloc, site, m)?;
+    }
+    Ok(progress)
+}
+
+impl Progress {
+    /// Where no node has been worked yet.
+    fn new(alloc: Global, levels: u32) -> Result<Progress, Memory> {
+        let none = LevelCount {
+            nodes: 0,
+            merges: 0,
+            passed: 0,
+        };
+        Ok(Progress {
+            waiting: Vec::new(alloc),
+            merges: Vec::new(alloc),
+            levels: Vec::from_elem(alloc, none, levels as usize)?,
+        })
+    }
+
+    /// Works node `m`, the next one.
+    fn work_next(&mut self, alloc: Global, site: &Site, m: u32) -> Result<(), Memory>
+        requires node { m < node_count site.now.cutting }
+        requires so_far { HasWorked site.now m m self.old.waiting.items self.old.merges.items self.old.levels.items }
+        ensures { IfOk result (λ _. HasWorked site.now (m + 1) (m + 1)
+            self.new.waiting.items self.new.merges.items self.new.levels.items) }
+    {
+        let cutting = site.cutting();
+        let kids = take_kids(alloc, cutting, m, &mut self.waiting)?;
+        let mut settled = work_node(alloc, site, m, kids)?;
+        count_node(&mut self.levels, cutting.level_of(m), &settled);
+        self.merges.append(&mut settled.merges)?;
+        self.waiting.push(Some(settled.residue))?;
+        Ok(())
+    }
+}
+
+/// Takes the residues of the children of node `m` out of those that wait.
+fn take_kids(
+    alloc: Global,
+    cutting: &Cutting,
+    m: u32,
+    waiting: &mut [Option<Graph>],
+) -> Result<Vec<Residue>, Memory>
+    requires node { m < node_count cutting.now }
+    requires there { AreThere cutting.now m waiting.old }
+    ensures { IfOk result (λ kids. AreTaken cutting.now m waiting.old waiting.new (map (λ kid. kid.graph) kids.items)) }
+{
+    let mut kids = Vec::new(alloc);
+    for i in 0..cutting.child_count(m) {
+        let node = cutting.child(m, i);
+        let graph = waiting[node as usize].take().unwrap();
+        kids.push(Residue { node, graph })?;
+    }
+    Ok(kids)
+}
+
+/// Counts a node of a level, with its merges and with the names that it passes on.
+fn count_node(levels: &mut [LevelCount], level: u32, settled: &Settled) {
+    let merges = settled.merges.len() as u32;
+    let passed = settled.residue.regions().len() as u32;
+    let count = &mut levels[level as usize];
+    count.nodes += 1;
+    count.merges += merges;
+    count.passed += passed;
+}
