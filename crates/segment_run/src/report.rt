@@ -1,4 +1,4 @@
-ghost use Rattle.std.specs.Prelude.{◌≡◌, ◌++◌, IfOk, codes, length, string_bytes};
+ghost use Rattle.std.specs.Prelude.{◌≡◌, ◌∷◌, [], IfOk, length, string_bytes};
 ghost use Rattle.agglo_model.specs.Axes.{voxel_count};
 ghost use Rattle.agglo_model.specs.Report.{level_lines, report, report_head};
 
