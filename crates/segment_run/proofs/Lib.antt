@@ -1,2 +1,4 @@
 pub mod Ordered
 pub mod ReportLines
+pub mod Families
+pub mod NodeTurns
