@@ -2,3 +2,4 @@ pub mod Ordered
 pub mod ReportLines
 pub mod Families
 pub mod NodeTurns
+pub mod Taking

@@ -1,8 +1,6 @@
-ghost use Rattle.std.specs.Prelude.{◌≡◌, ◌+◌, ◌≤◌, ◌<◌, ◌^◌, IfOk, length, map, slice_index_or};
-ghost use Rattle.agglo_model.specs.Cutting.{IsChunking, child_count, last_level, level_of, node_count};
-ghost use Rattle.agglo_model.specs.Report.{Level};
-ghost use Rattle.region_graph.specs.SiteView.{IsSite};
-ghost use Rattle.segment_run.specs.Turns.{AreTaken, AreThere, Counts, HasTurn, HasWorked};
+ghost use Rattle.std.specs.Prelude.{◌≡◌, ◌+◌, ◌<◌, [], IfOk, length, map, replicate, slice_set};
+ghost use Rattle.agglo_model.specs.Cutting.{child_count, node_count};
+ghost use Rattle.segment_run.specs.Turns.{AreTaken, AreThere, HasRoom, HasWorked, level_at, no_node, with_node};
 
 use crate::answer::LevelCount;
 use crate::node_work::work_node;
@@ -37,7 +35,11 @@ pub(crate) fn work_all(alloc: Global, site: &Site) -> Result<Progress, Memory>
 
 impl Progress {
     /// Where no node has been worked yet.
-    fn new(alloc: Global, levels: u32) -> Result<Progress, Memory> {
+    fn new(alloc: Global, levels: u32) -> Result<Progress, Memory>
+        ensures none_waiting { IfOk result (λ start. start.waiting.items ≡ []) }
+        ensures no_merge { IfOk result (λ start. start.merges.items ≡ []) }
+        ensures levels { IfOk result (λ start. start.levels.items ≡ replicate levels no_node) }
+    {
         let none = LevelCount {
             nodes: 0,
             merges: 0,
@@ -76,7 +78,8 @@ fn take_kids(
 ) -> Result<Vec<Residue>, Memory>
     requires node { m < node_count cutting.now }
     requires there { AreThere cutting.now m waiting.old }
-    ensures { IfOk result (λ kids. AreTaken cutting.now m waiting.old waiting.new (map (λ kid. kid.graph) kids.items)) }
+    ensures { IfOk result (λ kids. AreTaken cutting.now m (child_count cutting.now m) waiting.old waiting.new
+        (map (λ kid. kid.graph) kids.items)) }
 {
     let mut kids = Vec::new(alloc);
     for i in 0..cutting.child_count(m) {
@@ -88,7 +91,11 @@ fn take_kids(
 }
 
 /// Counts a node of a level, with its merges and with the names that it passes on.
-fn count_node(levels: &mut [LevelCount], level: u32, settled: &Settled) {
+fn count_node(levels: &mut [LevelCount], level: u32, settled: &Settled)
+    requires { HasRoom levels.old level (length settled.now.merges.items) (length settled.now.residue.regions) }
+    ensures { levels.new ≡ slice_set levels.old level (with_node (level_at levels.old level)
+        (length settled.now.merges.items) (length settled.now.residue.regions)) }
+{
     let merges = settled.merges.len() as u32;
     let passed = settled.residue.regions().len() as u32;
     let count = &mut levels[level as usize];
