@@ -3,3 +3,5 @@ pub mod ReportLines
 pub mod Families
 pub mod NodeTurns
 pub mod Taking
+pub mod RangeSums
+pub mod LevelCounts
