@@ -5,3 +5,5 @@ pub mod NodeTurns
 pub mod Taking
 pub mod RangeSums
 pub mod LevelCounts
+pub mod Kids
+pub mod Going
