@@ -7,3 +7,5 @@ pub mod RangeSums
 pub mod LevelCounts
 pub mod Kids
 pub mod Going
+pub mod FewerNames
+pub mod PassedNames

@@ -22,6 +22,15 @@ same_sums f g a (suc n) same =
     ∙ ap₂ (λ x y. x + y) (same_sums f g a n (λ k from to. same k from (omega arith))) (same (a + n) (omega arith) (omega arith))
     ∙ sym (sum_end g a n)
 
+-- a function that is nowhere greater along a range
+pub lesser_sum : (f g : ℕ → ℕ) (a n : ℕ) → ((k : ℕ) → a ≤ k → k < a + n → f k ≤ g k)
+    → sum_by f (range_with_len a n) ≤ sum_by g (range_with_len a n)
+lesser_sum f g a zero less = omega arith
+lesser_sum f g a (suc n) less =
+    let rest = lesser_sum f g a n (λ k from to. less k from (omega arith)) in
+    let last = less (a + n) (omega arith) (omega arith) in
+    omega (arith, sum_end f a n, sum_end g a n)
+
 -- what is at the places of a range is part of a list
 sum_between : {X : Type 0} (f : X → ℕ) (xs : List X) (d : X) (a n : ℕ) → a + n ≤ length xs
     → sum_by f (take a xs) + sum_by (λ k. f (get_or xs k d)) (range_with_len a n) ≡ sum_by f (take (a + n) xs)
