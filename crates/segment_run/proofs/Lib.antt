@@ -9,3 +9,5 @@ pub mod Kids
 pub mod Going
 pub mod FewerNames
 pub mod PassedNames
+pub mod Rooms
+pub mod Steps

@@ -10,6 +10,7 @@ use merge_tree::Merge;
 use mutual_merge::Settled;
 use region_graph::{Graph, Residue, Site};
 use std::alloc::Global;
+use work_laws::residues_stay;
 
 /// How far a run over the nodes has come: the residues that wait for their parents, by the numbers of their
 /// nodes, all merges so far, and what each level has done.
@@ -59,6 +60,7 @@ impl Progress {
         ensures { IfOk result (λ _. HasWorked site.now (m + 1) (m + 1)
             self.new.waiting.items self.new.merges.items self.new.levels.items) }
     {
+        residues_stay();
         let cutting = site.cutting();
         let kids = take_kids(alloc, cutting, m, &mut self.waiting)?;
         let mut settled = work_node(alloc, site, m, kids)?;
