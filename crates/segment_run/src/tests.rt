@@ -1,8 +1,10 @@
-use crate::basins;
+use crate::{Settings, basins, report_text, segment};
 use agglo_model::Memory;
 use chunk_tree::Cutting;
+use mean_fraction::Threshold;
 use seg_base::{DimFault, Dims};
 use std::alloc::{AllocError, Global};
+use std::test::Fail;
 use std::thread::Threads;
 use steepest_ascent::whole_basins;
 use volume_file::{Head, Volume};
@@ -77,5 +79,79 @@ fn the_cutting_does_not_show(rt: HostRuntime) -> Result<(), Trouble> {
             assert!(rt; labels.as_slice() == wanted.as_slice(), "cut by {chunk:?}");
         }
     }
+    Ok(())
+}
+
+/// A segmentation in plain numbers: the labels, the names of the merges with the sum, the count and the tie of
+/// their contacts, and the report.
+#[derive(Drop)]
+struct Told {
+    labels: Vec<u32>,
+    merges: Vec<[u64; 5]>,
+    report: String,
+}
+
+/// The segmentation of four voxels in a row, whose three edges have these bytes.
+fn segmented<R: Threads + Sync>(
+    rt: &R,
+    alloc: Global,
+    edges: [u8; 3],
+    chunk: u32,
+    mean: u32,
+) -> Result<Told, Fail> {
+    let [first, second, third] = edges;
+    let body = [0, 0, 0, first, 0, 0, second, 0, 0, third, 0, 0];
+    let dims = Dims::new(4, 1, 1)?;
+    if dims.body_len() != 12 {
+        return Err("there is one body length".into());
+    }
+    let vol = Volume::of(Head { dims, version: 1 }, body.to_vec(alloc)?);
+    let cutting = Cutting::new(vol.dims(), [chunk, 1, 1])?;
+    let settings = Settings {
+        low: 1,
+        threshold: Threshold::new(mean, 1)?,
+        workers: 1,
+    };
+    let answer = segment(rt, alloc, &vol, &cutting, &settings)?;
+    let report = report_text(alloc, &answer)?;
+    let mut merges = Vec::new(alloc);
+    for merge in &answer.merges {
+        let contact = merge.contact;
+        merges.push([
+            u64::from(merge.survivor),
+            u64::from(merge.absorbed),
+            contact.sum(),
+            contact.count(),
+            u64::from(contact.tie()),
+        ])?;
+    }
+    Ok(Told {
+        labels: answer.labels.list().to_vec(alloc)?,
+        merges,
+        report,
+    })
+}
+
+#[test]
+fn a_row_in_one_leaf(rt: HostRuntime) -> Result<(), Fail> {
+    let told = segmented(&rt, rt.alloc(), [200, 50, 180], 4, 50)?;
+    assert_eq!(rt; told.labels.as_slice(), [1, 1, 1, 1].as_slice());
+    assert_eq!(rt; told.merges.as_slice(), [[1, 3, 50, 1, 6]].as_slice());
+    assert_eq!(rt;
+        told.report.as_str(),
+        "voxels 4\nbasins 2\nmerges 1\nregions 1\nlevel 0 nodes 1 merges 1 passed 0\n"
+    );
+    Ok(())
+}
+
+#[test]
+fn a_row_below_the_threshold(rt: HostRuntime) -> Result<(), Fail> {
+    let told = segmented(&rt, rt.alloc(), [200, 50, 180], 4, 51)?;
+    assert_eq!(rt; told.labels.as_slice(), [1, 1, 3, 3].as_slice());
+    assert_eq!(rt; told.merges.len(), 0);
+    assert_eq!(rt;
+        told.report.as_str(),
+        "voxels 4\nbasins 2\nmerges 0\nregions 2\nlevel 0 nodes 1 merges 0 passed 0\n"
+    );
     Ok(())
 }
