@@ -251,6 +251,17 @@ pub record AreFound (g : Grid) (c : Chunking) (m : ℕ) (labels : List ℕ) (kid
   pub edges_are : edges ≡ kept_edges kids
   pub contacts : (x y : ℕ) → contact_in (edge_count g.axes) crossing x y ≡ across g c m labels x y
 
+pub found_lists : (g : Grid) (c : Chunking) (m : ℕ) (labels : List ℕ) (kids : List RegionGraph) (regions : List Region)
+    (edges crossing : List GraphEdge) → All IsGraph kids → regions ≡ kept_regions c m 0 kids → edges ≡ kept_edges kids
+    → ((x y : ℕ) → contact_in (edge_count g.axes) crossing x y ≡ across g c m labels x y)
+    → AreFound g c m labels kids regions edges crossing
+found_lists g c m labels kids regions edges crossing graphs regions_are edges_are contacts = record {
+  graphs = graphs_at kids graphs;
+  regions_are = regions_are;
+  edges_are = edges_are;
+  contacts = contacts;
+}
+
 -- edges in order
 pub record AreSummed (edges : List GraphEdge) : Type 0 where
   pub ascend : AllPairs StandsBefore edges

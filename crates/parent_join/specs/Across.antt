@@ -1,12 +1,11 @@
 -- The edges of the grid that cross from child to child of a node, and their contacts.
-use Rattle.std.specs.Prelude.{ℕ, Bool, ◌&&◌, List, slice_set, slice_index, min, ◌+◌}
+use Rattle.std.specs.Prelude.{ℕ, ◌+◌, min, Bool, ◌&&◌, List, slice_index, slice_set}
 use Rattle.agglo_model.specs.Grid.{Grid}
 use Rattle.agglo_model.specs.PairOrder.{Contact}
 use Rattle.agglo_model.specs.Contacts.{joins, total}
 use Rattle.agglo_model.specs.Cutting.{Chunking}
-use Rattle.agglo_model.specs.RegionGraph.{GraphEdge}
+use Rattle.agglo_model.specs.RegionGraph.{Region, GraphEdge}
 use Rattle.agglo_model.specs.Joining.{is_crossing, is_named}
-use Rattle.agglo_model.specs.RegionGraph.{Region}
 
 -- the contact of two names by the edges that cross from child to child of node m
 abbrev pub across : Grid → Chunking → ℕ → List ℕ → ℕ → ℕ → Contact
@@ -16,7 +15,7 @@ across g c m labels x y = total g (λ e. joins g labels x y e && is_crossing c m
 abbrev pub are_named : List Region → GraphEdge → Bool
 are_named regions e = is_named regions e.a && is_named regions e.b
 
--- the corners of the layer of a box at one coordinate of an axis
+-- the low and the high corner of the layer of a box at one coordinate of an axis, which is empty where the box ends
 abbrev pub layer_from : List ℕ → ℕ → ℕ → List ℕ
 layer_from lo axis plane = slice_set lo axis plane
 

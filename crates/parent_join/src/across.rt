@@ -1,11 +1,10 @@
-ghost use Rattle.std.specs.Prelude.{◌≡◌, ℕ, ◌+◌, ◌<◌, ◌≤◌, ◌==◌, ◌++◌, ◌&&◌, AllPairs, IfOk, filter, slice_index};
-ghost use Rattle.agglo_model.specs.Axes.{coordinate, edge_count, voxel_count};
+ghost use Rattle.std.specs.Prelude.{◌≡◌, ℕ, ◌<◌, ◌≤◌, ◌++◌, AllPairs, IfOk, filter, slice_index};
+ghost use Rattle.agglo_model.specs.Axes.{edge_count};
 ghost use Rattle.agglo_model.specs.Cutting.{child_count, node_count};
 ghost use Rattle.agglo_model.specs.Joining.{is_named};
 ghost use Rattle.agglo_model.specs.PairOrder.{most_edges};
 ghost use Rattle.agglo_model.specs.RegionGraph.{contact_in};
 ghost use Rattle.parent_join.specs.Across.{across, are_named, layer_from, layer_to};
-ghost use Rattle.region_graph.specs.Boxes.{GainsContacts, IsBox, ends_among, in_box};
 ghost use Rattle.region_graph.specs.Lists.{AreOrdered, count_of};
 ghost use Rattle.region_graph.specs.SiteView.{IsSite};
 
