@@ -1,0 +1,96 @@
+mod cases;
+mod plain_basins;
+mod plain_grid;
+mod plain_merging;
+
+use cases::{CASES, Case, make_case};
+use chunk_tree::Cutting;
+use plain_basins::{basin_labels, name_count};
+use plain_grid::edges_of;
+use plain_merging::{Pair, agglomerate};
+use segment_run::segment;
+use std::alloc::{AllocError, Global};
+use std::process::Abort;
+use std::test::Fail;
+use std::thread::Threads;
+
+/// The sizes of the leaves: the whole volume, single voxels, and some that do not fit evenly.
+const CHUNKS: [[u32; 3]; 5] = [[9, 9, 9], [1, 1, 1], [2, 2, 2], [3, 1, 2], [2, 3, 1]];
+
+/// A segmentation in plain numbers.
+#[derive(Drop)]
+struct Told {
+    basins: usize,
+    labels: Vec<u32>,
+    merges: Vec<Pair>,
+}
+
+/// The segmentation by the definitions.
+fn plainly(alloc: Global, case: &Case) -> Result<Told, AllocError> {
+    let voxels = case.vol.dims().voxels();
+    let edges = edges_of(alloc, &case.vol)?;
+    let mut labels = basin_labels(alloc, &edges, voxels, case.settings.low)?;
+    let basins = name_count(&labels, voxels);
+    let merges = agglomerate(alloc, &edges, &mut labels, case.settings.threshold)?;
+    Ok(Told {
+        basins,
+        labels,
+        merges,
+    })
+}
+
+/// The segmentation by leaves of these sizes.
+fn by_leaves<R: Threads + Sync>(
+    rt: &R,
+    alloc: Global,
+    case: &Case,
+    chunk: [u32; 3],
+) -> Result<Told, Fail> {
+    let cutting = Cutting::new(case.vol.dims(), chunk)?;
+    let answer = segment(rt, alloc, &case.vol, &cutting, &case.settings)?;
+    let mut merges = Vec::new(alloc);
+    for merge in &answer.merges {
+        let contact = merge.contact;
+        merges.push(Pair {
+            survivor: merge.survivor,
+            absorbed: merge.absorbed,
+            sum: contact.sum(),
+            count: contact.count(),
+            tie: contact.tie(),
+        })?;
+    }
+    Ok(Told {
+        basins: answer.basins as usize,
+        labels: answer.labels.list().to_vec(alloc)?,
+        merges,
+    })
+}
+
+/// Compares the segmentations of a case by each cutting with the plain one.
+fn compare<R: Abort + Threads + Sync>(rt: &R, alloc: Global, seed: u32) -> Result<(), Fail> {
+    let case = make_case(alloc, seed)?;
+    let plain = plainly(alloc, &case)?;
+    for chunk in CHUNKS {
+        let told = by_leaves(rt, alloc, &case, chunk)?;
+        assert_eq!(rt; told.basins, plain.basins, "seed {seed} cut by {chunk:?}");
+        assert_eq!(rt;
+            told.merges.as_slice(),
+            plain.merges.as_slice(),
+            "seed {seed} cut by {chunk:?}"
+        );
+        assert_eq!(rt;
+            told.labels.as_slice(),
+            plain.labels.as_slice(),
+            "seed {seed} cut by {chunk:?}"
+        );
+    }
+    Ok(())
+}
+
+#[test]
+fn segmentations_are_as_plainly_computed(rt: HostRuntime) -> Result<(), Fail> {
+    for seed in 0..CASES {
+        compare(&rt, rt.alloc(), seed)?;
+    }
+    Ok(())
+}
