@@ -11,3 +11,4 @@ pub mod FewerNames
 pub mod PassedNames
 pub mod Rooms
 pub mod Steps
+pub mod Starting
