@@ -12,3 +12,4 @@ pub mod PassedNames
 pub mod Rooms
 pub mod Steps
 pub mod Starting
+pub mod TiesApart
