@@ -13,3 +13,4 @@ pub mod Rooms
 pub mod Steps
 pub mod Starting
 pub mod TiesApart
+pub mod Ending
