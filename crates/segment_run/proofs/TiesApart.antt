@@ -6,7 +6,7 @@ use Rattle.agglo_model.specs.Axes.{is_edge}
 use Rattle.agglo_model.specs.Grid.{Grid}
 use Rattle.agglo_model.specs.PairOrder.{Threshold}
 use Rattle.agglo_model.specs.Contacts.{lower_label, higher_label, between, InContact, renamed}
-use Rattle.agglo_model.specs.Greedy.{Merge, IsMutualRun, IsMutualStep, after_merge}
+use Rattle.agglo_model.specs.Greedy.{Merge, IsMutualRun, after_merge}
 use Rattle.agglo_model.proofs.ContactEdges.{InContact-names, InContact-tie}
 use Rattle.agglo_model.proofs.FirstPairs.{names_are}
 use Rattle.agglo_model.proofs.Renames.{new_name, label-renamed}
