@@ -1,22 +1,15 @@
-//! The graph of a node that is no leaf, joined from the residues of its children. A stand-in: it gives up.
+//! The graph of a node that has children, made of what these passed on: their names and contacts, and the
+//! contacts across the faces between them.
+//!
+//! It stands on `region_graph`, whose lists it gathers and sums up. The run over all nodes stands on it.
 #![tactic(auto)]
 
-ghost use Rattle.std.specs.Prelude.{◌≡◌, ◌<◌, IfOk, length, map};
-ghost use Rattle.agglo_model.specs.Cutting.{child_count, node_count};
-ghost use Rattle.agglo_model.specs.Joining.{IsJoined};
+mod across;
+mod joining;
+mod kids;
+mod laws;
+#[cfg(test)]
+mod tests;
 
-use agglo_model::Memory;
-use region_graph::{Graph, Residue, Site};
-use std::alloc::Global;
-
-/// The graph of node `m`, made of the residues of its children in order of number.
-pub fn join(_alloc: Global, site: &Site, m: u32, kids: Vec<Residue>) -> Result<Graph, Memory>
-    requires node { m < node_count site.now.cutting }
-    requires parent { 0 < child_count site.now.cutting m }
-    requires one_each { length kids.items ≡ child_count site.now.cutting m }
-    ensures { IfOk result (λ graph.
-        IsJoined site.now.grid site.now.cutting m site.now.labels (map (λ kid. kid.graph) kids.items) graph) }
-{
-    let _ = (site.cutting(), m, kids);
-    Err(Memory)
-}
+pub use joining::join;
+pub use laws::residues_fit;

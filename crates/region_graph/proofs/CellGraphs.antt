@@ -41,7 +41,7 @@ there_named : (rs : List Region) (r : Region) → Contains rs r → has_name rs 
 there_named rs r inside = any_from (λ (s : Region). eqb s.name r.name) rs r inside (itself r.name)
 
 -- where each name stands once, its faces are those of its region
-faces_of : (rs : List Region) (r : Region) → Ascend rs → Contains rs r → faces_in rs r.name ≡ r.faces
+pub faces_of : (rs : List Region) (r : Region) → Ascend rs → Contains rs r → faces_in rs r.name ≡ r.faces
 faces_of rs r ascend inside = same_by_bits (faces_in rs r.name) r.faces (λ i.
     faces_in-bit rs r.name i
     ∙ same_tests (list_any (names_face r.name i) rs) (has_bit r.faces i)

@@ -12,7 +12,7 @@ use seg_base::Cell;
 
 /// Adds the contacts of the edges on an axis whose higher ends lie in a box. No voxel of the box lies at the
 /// volume's low border on that axis.
-pub(crate) fn add_contacts(
+pub fn add_contacts(
     edges: &mut Vec<Edge>,
     site: &Site,
     axis: u32,

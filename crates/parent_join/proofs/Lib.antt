@@ -1,0 +1,13 @@
+pub mod EdgeCounts
+pub mod FewEdges
+pub mod AnyPast
+pub mod NamedEdges
+pub mod Planes
+pub mod FirstChild
+pub mod CrossingLayers
+pub mod AxesAcross
+pub mod ChildEnds
+pub mod KidLists
+pub mod NameSearch
+pub mod JoinedGraphs
+pub mod KidPushes

@@ -1,0 +1,133 @@
+use Rattle.std.proofs.Common.{◌≡◌, ◌≤◌, ◌++◌, sym, ap, ◌∙◌, subst}
+use Rattle.std.specs.Prelude.{filter}
+use Rattle.std.proofs.lemmas.List.{length-map}
+use Rattle.agglo_model.specs.Joining.{IsJoined, kept_edges}
+use Rattle.agglo_model.specs.PairOrder.{most_edges}
+use Rattle.region_graph.specs.Lists.{AreNamed, AreOrdered, count_of}
+use Rattle.region_graph.specs.declared.graph.Residue.{Residue}
+use Rattle.parent_join.specs.Across.{are_named}
+use Rattle.parent_join.specs.Kids.{graphs_of}
+use Rattle.parent_join.proofs.FirstChild.{inner}
+use Rattle.parent_join.proofs.JoinedGraphs.{AreFound, all_few, all_ordered, found_across, found_joined, graphs_at, joined-graph, joined-is, kept_named}
+use Rattle.parent_join.proofs.joining.join.Goals as goal
+
+pub join_regions-requires : goal.join_regions-requires
+join_regions-requires c =
+    subst AreNamed (sym c.in_ok-regions.ensures.regions)
+    (kept_named c.args.site.now.cutting c.args.m (graphs_of c.args.kids.items) (λ k below. (c.requires.fit k below).named))
+
+-- the lists that were gathered
+found : (c : goal.In_ok-add_named) → AreFound c.args.site.now.grid c.args.site.now.cutting c.args.m c.args.site.now.labels
+    (graphs_of c.args.kids.items) c.in_ok-regions.field-0.regions.items c.in_ok-regions.field-0.edges.items
+    c.in_ok-gather_across.field-0.items
+found c = record {
+  graphs = graphs_at (graphs_of c.args.kids.items) c.in_ok-regions.ensures.graphs;
+  regions_are = c.in_ok-regions.ensures.regions;
+  edges_are = c.in_ok-regions.ensures.edges;
+  contacts = c.in_ok-gather_across.ensures.contacts;
+}
+
+-- the edges that are summed up last
+all_edges : (c : goal.In_ok-add_named) → c.add_named.new.edges.items
+    ≡ kept_edges (graphs_of c.args.kids.items) ++ filter (are_named c.in_ok-regions-2.regions.items) c.in_ok-across.across.items
+all_edges c =
+    c.in_ok-add_named.ensures
+    ∙ (λ i. c.in_ok-regions.ensures.edges i ++ filter (are_named (c.deref-2.ensures.value i)) (c.deref.ensures.value i))
+
+pub sum_contacts-requires-2-clause-within : goal.sum_contacts-requires-2-clause-within
+sum_contacts-requires-2-clause-within c =
+    let s = c.args.site.now in
+    let kids = graphs_of c.args.kids.items in
+    let site = c.in_ok-gather_across.ensures.site in
+    let summed = c.in_ok-across.ensures in
+    let regions = c.in_ok-regions-2.regions.items in
+    let crossing = c.in_ok-across.across.items in
+    subst (λ es. count_of es ≤ most_edges) (sym (all_edges c))
+    (all_few s.grid s.cutting site.chunking c.args.m c.requires.node (inner s.cutting site.chunking c.args.m c.requires.node c.requires.parent)
+    s.labels kids regions crossing site.whole.limits
+    (length-map c.args.kids.items (λ (kid : Residue). kid.graph) ∙ c.requires.one_each) c.requires.fit
+    (found_across s.grid s.cutting c.args.m s.labels kids c.in_ok-regions.field-0.regions.items c.in_ok-regions.field-0.edges.items
+    c.in_ok-gather_across.field-0.items crossing (found c) summed.contacts summed.touching)
+    summed.ascend summed.ordered)
+
+pub sum_contacts-requires-2-clause-ordered : goal.sum_contacts-requires-2-clause-ordered
+sum_contacts-requires-2-clause-ordered c =
+    let s = c.args.site.now in
+    let kids = graphs_of c.args.kids.items in
+    let site = c.in_ok-gather_across.ensures.site in
+    subst AreOrdered (sym (all_edges c))
+    (all_ordered s.grid s.cutting site.chunking c.args.m c.requires.node (inner s.cutting site.chunking c.args.m c.requires.node c.requires.parent)
+    s.labels kids c.in_ok-regions-2.regions.items c.in_ok-across.across.items (graphs_at kids c.in_ok-regions.ensures.graphs) c.in_ok-across.ensures.ordered)
+
+pub of-requires-clause-graph : goal.of-requires-clause-graph
+of-requires-clause-graph c =
+    let s = c.args.site.now in
+    let kids = graphs_of c.args.kids.items in
+    let regions = c.in_ok-regions-2.regions.items in
+    let crossing = c.in_ok-across.across.items in
+    let edges = c.in_ok-edges.edges.items in
+    let found : AreFound s.grid s.cutting c.args.m s.labels kids c.in_ok-regions.field-0.regions.items c.in_ok-regions.field-0.edges.items
+    c.in_ok-gather_across.field-0.items = record {
+      graphs = graphs_at kids c.in_ok-regions.ensures.graphs;
+      regions_are = c.in_ok-regions.ensures.regions;
+      edges_are = c.in_ok-regions.ensures.edges;
+      contacts = c.in_ok-gather_across.ensures.contacts;
+    } in
+    joined-graph s.grid s.cutting c.args.m s.labels kids crossing regions edges
+    (found_joined s.grid s.cutting c.args.m s.labels kids c.in_ok-regions.field-0.regions.items regions c.in_ok-regions.field-0.edges.items
+    c.in_ok-gather_across.field-0.items crossing c.add_named.new.edges.items edges found c.in_ok-regions-2.ensures.ascend
+    c.in_ok-regions-2.ensures.same c.in_ok-across.ensures.contacts c.in_ok-across.ensures.touching
+    (c.in_ok-add_named.ensures
+    ∙ (λ i. c.in_ok-regions.field-0.edges.items ++ filter (are_named (c.deref-2.ensures.value i)) (c.deref.ensures.value i)))
+    c.in_ok-edges.ensures.contacts
+    (record { ascend = c.in_ok-edges.ensures.ascend; ordered = c.in_ok-edges.ensures.ordered; touching = c.in_ok-edges.ensures.touching }))
+
+pub of-requires-clause-within : goal.of-requires-clause-within
+of-requires-clause-within c =
+    let s = c.args.site.now in
+    let kids = graphs_of c.args.kids.items in
+    let site = c.in_ok-gather_across.ensures.site in
+    let summed = c.in_ok-across.ensures in
+    let regions = c.in_ok-regions-2.regions.items in
+    let crossing = c.in_ok-across.across.items in
+    let found : AreFound s.grid s.cutting c.args.m s.labels kids c.in_ok-regions.field-0.regions.items c.in_ok-regions.field-0.edges.items
+    c.in_ok-gather_across.field-0.items = record {
+      graphs = graphs_at kids c.in_ok-regions.ensures.graphs;
+      regions_are = c.in_ok-regions.ensures.regions;
+      edges_are = c.in_ok-regions.ensures.edges;
+      contacts = c.in_ok-gather_across.ensures.contacts;
+    } in
+    let all : c.add_named.new.edges.items ≡ kept_edges kids ++ filter (are_named regions) crossing =
+    c.in_ok-add_named.ensures
+    ∙ (λ i. c.in_ok-regions.ensures.edges i ++ filter (are_named (c.deref-2.ensures.value i)) (c.deref.ensures.value i)) in
+    subst (λ n. n ≤ most_edges) (sym (c.in_ok-edges.ensures.count ∙ ap count_of all))
+    (all_few s.grid s.cutting site.chunking c.args.m c.requires.node (inner s.cutting site.chunking c.args.m c.requires.node c.requires.parent)
+    s.labels kids regions crossing site.whole.limits
+    (length-map c.args.kids.items (λ (kid : Residue). kid.graph) ∙ c.requires.one_each) c.requires.fit
+    (found_across s.grid s.cutting c.args.m s.labels kids c.in_ok-regions.field-0.regions.items c.in_ok-regions.field-0.edges.items
+    c.in_ok-gather_across.field-0.items crossing found summed.contacts summed.touching)
+    summed.ascend summed.ordered)
+
+pub returns : goal.returns
+returns c =
+    let s = c.args.site.now in
+    let kids = graphs_of c.args.kids.items in
+    let regions = c.in_ok-regions-2.regions.items in
+    let crossing = c.in_ok-across.across.items in
+    let edges = c.in_ok-edges.edges.items in
+    let found : AreFound s.grid s.cutting c.args.m s.labels kids c.in_ok-regions.field-0.regions.items c.in_ok-regions.field-0.edges.items
+    c.in_ok-gather_across.field-0.items = record {
+      graphs = graphs_at kids c.in_ok-regions.ensures.graphs;
+      regions_are = c.in_ok-regions.ensures.regions;
+      edges_are = c.in_ok-regions.ensures.edges;
+      contacts = c.in_ok-gather_across.ensures.contacts;
+    } in
+    subst (IsJoined s.grid s.cutting c.args.m s.labels kids) (sym c.of.ensures)
+    (joined-is s.grid s.cutting c.args.m s.labels kids crossing regions edges
+    (found_joined s.grid s.cutting c.args.m s.labels kids c.in_ok-regions.field-0.regions.items regions c.in_ok-regions.field-0.edges.items
+    c.in_ok-gather_across.field-0.items crossing c.add_named.new.edges.items edges found c.in_ok-regions-2.ensures.ascend
+    c.in_ok-regions-2.ensures.same c.in_ok-across.ensures.contacts c.in_ok-across.ensures.touching
+    (c.in_ok-add_named.ensures
+    ∙ (λ i. c.in_ok-regions.field-0.edges.items ++ filter (are_named (c.deref-2.ensures.value i)) (c.deref.ensures.value i)))
+    c.in_ok-edges.ensures.contacts
+    (record { ascend = c.in_ok-edges.ensures.ascend; ordered = c.in_ok-edges.ensures.ordered; touching = c.in_ok-edges.ensures.touching })))

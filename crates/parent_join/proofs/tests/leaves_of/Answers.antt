@@ -1,0 +1,17 @@
+use Rattle.std.proofs.Common.{◌≡◌, ◌+◌, sym, ap, ◌∙◌, subst}
+use Rattle.agglo_model.specs.Cutting.{child}
+use Rattle.parent_join.specs.Kids.{FitsInto}
+use Rattle.parent_join.proofs.KidPushes.{AreFirstKids, kids_more}
+use Rattle.parent_join.proofs.tests.leaves_of.Goals as goal
+
+pub loop-i-preserved : goal.loop-i-preserved
+loop-i-preserved c =
+    let s = c.args.site.now in
+    let m = c.args.m in
+    let i = c.loop-i.i in
+    let graph = c.in_ok-graph.graph in
+    let node_is : c.child-node.result ≡ child s.cutting m i =
+    c.child-node.ensures.value ∙ ap (λ t. child t m i) c.cutting-cutting.ensures.value in
+    subst (AreFirstKids s.grid s.cutting m (i + 1)) (sym c.in_ok-push.ensures.items)
+    (kids_more s.grid s.cutting m i c.loop-i.kids.items (record { node = c.child-node.result; graph = graph }) c.loop-i.invariant
+    (subst (λ n. FitsInto s.grid s.cutting n graph) node_is c.in_ok-graph.ensures))
