@@ -1,11 +1,11 @@
 -- A run goes on by one node.
-use Rattle.std.proofs.Common.{◌≡◌, ◌≢◌, ◌⊎◌, inl, inr, ℕ, ◌+◌, ◌<◌, ◌≤◌, List, [], ◌∷◌, ◌++◌, length, get_or, set, Option, Some, None, sym, ap, ◌∙◌, subst, arith}
+use Rattle.std.proofs.Common.{◌≡◌, ◌≢◌, ◌⊎◌, inl, inr, ℕ, ◌+◌, ◌<◌, ◌≤◌, List, [], ◌∷◌, ◌++◌, length, get_or, set, Option, Some, sym, ap, ◌∙◌, subst, arith}
 use Rattle.std.proofs.Math.Seq.{get_or-append_seam}
 use Rattle.std.proofs.lemmas.Bool.{cases_lt}
 use Rattle.std.proofs.lemmas.Grind.{flat_map-append}
 use Rattle.std.proofs.lemmas.List.{append-nil, get_or_append_left, get_or-set_same, get_or-set_other, length-append, length-set}
 use Rattle.agglo_model.specs.Greedy.{Merge}
-use Rattle.agglo_model.specs.Cutting.{Chunking, IsChunking, last_level, node_count, level_of, parent, child, child_count}
+use Rattle.agglo_model.specs.Cutting.{IsChunking, last_level, node_count, level_of, parent, child, child_count}
 use Rattle.agglo_model.specs.Work.{all_merges, labels_after}
 use Rattle.agglo_model.specs.RegionGraph.{RegionGraph, IsResidue, residue_of}
 use Rattle.agglo_model.specs.Report.{Level}

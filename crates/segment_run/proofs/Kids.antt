@@ -1,6 +1,5 @@
 -- The residues of a node's children are among those that wait.
-use Rattle.std.proofs.Common.{◌≡◌, ◌≢◌, ℕ, ◌<◌, ◌==◌, Bool, true, false, cond, List, Option, Some, None, refl, sym, ap, ◌∙◌, subst, eqb-true, arith}
-use Rattle.std.proofs.lemmas.Bool.{false≢true}
+use Rattle.std.proofs.Common.{◌≡◌, ◌≢◌, ℕ, ◌<◌, ◌==◌, Bool, true, false, cond, List, Option, Some, None, refl, ap, subst, eqb-true, arith}
 use Rattle.agglo_model.specs.Greedy.{Merge}
 use Rattle.agglo_model.specs.Cutting.{Chunking, IsChunking, node_count, root, parent, child, child_count}
 use Rattle.agglo_model.specs.Work.{labels_after}

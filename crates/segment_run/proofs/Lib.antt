@@ -11,3 +11,6 @@ pub mod FewerNames
 pub mod PassedNames
 pub mod Rooms
 pub mod Steps
+pub mod Starting
+pub mod TiesApart
+pub mod Ending

@@ -1,5 +1,5 @@
 -- A node that settles the graph it starts from takes its turn.
-use Rattle.std.proofs.Common.{◌≡◌, inl, inr, ℕ, ◌<◌, List}
+use Rattle.std.proofs.Common.{inl, inr, ℕ, ◌<◌, List}
 use Rattle.agglo_model.specs.Greedy.{Merge}
 use Rattle.agglo_model.specs.Cutting.{node_count, artificial_faces}
 use Rattle.agglo_model.specs.RegionGraph.{RegionGraph}

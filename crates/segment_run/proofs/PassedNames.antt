@@ -1,5 +1,5 @@
 -- The names that the nodes of a level pass on are no more than voxels.
-use Rattle.std.proofs.Common.{◌≡◌, ◌≢◌, ◌⊎◌, inl, inr, ℕ, zero, suc, ◌+◌, ◌<◌, ◌≤◌, ◌==◌, nat_lt, Bool, true, false, cond, eqb, List, [], ◌∷◌, map, filter, length, get_or, count_by, sum_by, refl, sym, ap, ◌∙◌, subst, eqb-true, eq-eqb, ltb-true, arith}
+use Rattle.std.proofs.Common.{◌≡◌, ◌⊎◌, inl, inr, ℕ, zero, suc, ◌+◌, ◌<◌, ◌≤◌, ◌==◌, nat_lt, Bool, true, false, cond, eqb, List, [], ◌∷◌, map, filter, length, get_or, count_by, sum_by, refl, sym, ap, ◌∙◌, subst, eqb-true, eq-eqb, arith}
 use Rattle.std.specs.Prelude.{Contains, AllPairs}
 use Rattle.std.specs.Cmp.{IsEquivalence}
 use Rattle.std.specs.List.{range_with_len, list_any, IsDistinct}
@@ -15,8 +15,8 @@ use Rattle.agglo_model.specs.Axes.{voxel_count}
 use Rattle.agglo_model.specs.Basins.{label_of}
 use Rattle.agglo_model.specs.Grid.{Grid}
 use Rattle.agglo_model.specs.PairOrder.{Threshold}
-use Rattle.agglo_model.specs.Cutting.{Chunking, node_count, cells_at, first_node, last_level, level_of, node_at}
-use Rattle.agglo_model.specs.Freezing.{is_held, is_part}
+use Rattle.agglo_model.specs.Cutting.{Chunking, first_node, last_level, level_of, node_at}
+use Rattle.agglo_model.specs.Freezing.{is_held}
 use Rattle.agglo_model.specs.RegionGraph.{Region, RegionGraph, IsResidue, residue_of}
 use Rattle.agglo_model.proofs.Freezing.{held_voxel, held_node, occurs_at, part_held, part_name}
 use Rattle.agglo_model.proofs.Levels.{level_of-is}

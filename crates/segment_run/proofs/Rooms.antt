@@ -1,15 +1,13 @@
 -- What levels count stays below 2^32.
-use Rattle.std.proofs.Common.{◌≡◌, inl, inr, ℕ, ◌-◌, ◌^◌, ◌<◌, ◌≤◌, min, List, [], length, get_or, set, sum_by, Option, sym, ap, ◌∙◌, subst, arith}
+use Rattle.std.proofs.Common.{◌≡◌, inl, inr, ℕ, ◌-◌, ◌^◌, ◌<◌, ◌≤◌, min, List, [], length, set, sum_by, Option, sym, subst, arith}
 use Rattle.std.specs.List.{range_with_len}
 use Rattle.std.proofs.lemmas.Bool.{cases_lt}
 use Rattle.std.proofs.lemmas.List.{get_or_past, get_or-set_same}
 use Rattle.std.proofs.lemmas.List.Concat.{length-flat_map}
-use Rattle.agglo_model.specs.Axes.{voxel_count}
-use Rattle.agglo_model.specs.Basins.{label_of}
 use Rattle.agglo_model.specs.Greedy.{Merge}
 use Rattle.agglo_model.specs.LabelMap.{AreLabels}
 use Rattle.agglo_model.specs.Cutting.{cells_at, first_node, last_level}
-use Rattle.agglo_model.specs.Work.{all_merges, work_of, labels_after}
+use Rattle.agglo_model.specs.Work.{work_of, labels_after}
 use Rattle.agglo_model.specs.RegionGraph.{RegionGraph}
 use Rattle.agglo_model.specs.Report.{Level}
 use Rattle.agglo_model.proofs.Levels.{node_count-lt}

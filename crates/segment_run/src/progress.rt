@@ -1,5 +1,6 @@
 ghost use Rattle.std.specs.Prelude.{◌≡◌, ◌+◌, ◌<◌, [], IfOk, length, map, replicate, slice_set};
 ghost use Rattle.agglo_model.specs.Cutting.{child_count, node_count};
+ghost use Rattle.region_graph.specs.SiteView.{IsSite};
 ghost use Rattle.segment_run.specs.Turns.{AreTaken, AreThere, HasRoom, HasWorked, level_at, no_node, with_node};
 
 use crate::answer::LevelCount;
@@ -23,8 +24,9 @@ pub(crate) struct Progress {
 
 /// Works all nodes in ascending number, so that children come before their parents.
 pub(crate) fn work_all(alloc: Global, site: &Site) -> Result<Progress, Memory>
-    ensures { IfOk result (λ done. HasWorked site.now (node_count site.now.cutting) (node_count site.now.cutting)
+    ensures worked { IfOk result (λ done. HasWorked site.now (node_count site.now.cutting) (node_count site.now.cutting)
         done.waiting.items done.merges.items done.levels.items) }
+    ensures site { IsSite site.now }
 {
     let cutting = site.cutting();
     let mut progress = Progress::new(alloc, cutting.levels())?;

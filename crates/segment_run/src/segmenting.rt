@@ -1,24 +1,35 @@
-ghost use Rattle.std.specs.Prelude.{◌≡◌, IfOk};
+ghost use Rattle.std.specs.Prelude.{◌≡◌, ℕ, All, IfOk, length};
 ghost use Rattle.agglo_model.specs.Basins.{AreBasins, names};
-ghost use Rattle.agglo_model.specs.Segmentation.{IsSegmentation};
+ghost use Rattle.agglo_model.specs.Greedy.{IsGreedyRun};
+ghost use Rattle.agglo_model.specs.Grid.{Grid};
+ghost use Rattle.agglo_model.specs.Segmentation.{AreLevels, IsSegmentation};
+ghost use Rattle.merge_tree.specs.Renaming.{HasSmallNames};
 
-use crate::answer::{Answer, Settings};
+use crate::answer::{Answer, LevelCount, Settings};
 use crate::basin_run::basins;
-use crate::progress::{Progress, work_all};
+use crate::progress::work_all;
 use agglo_model::Memory;
-use agglo_model::laws::counted_names;
-use agglo_model::laws_of_nodes::basins_are_connected;
+use agglo_model::laws::{bounded_labels, counted_names};
+use agglo_model::laws_of_merging::{greedy_merges_are_lawful, sorted_merges_are_greedy};
+use agglo_model::laws_of_nodes::{basins_are_connected, works_are_a_run};
 use chunk_tree::Cutting;
 use mean_fraction::Threshold;
-use merge_tree::{apply, in_order};
+use merge_tree::{Merge, apply, in_order};
 use region_graph::Site;
 use seg_base::Labels;
 use std::alloc::Global;
 use std::thread::Threads;
 use volume_file::Volume;
 
+/// The merges of all nodes, in pair order, and what each level did.
+#[derive(Drop)]
+struct Agglomeration {
+    merges: Vec<Merge>,
+    levels: Vec<LevelCount>,
+}
+
 /// The segmentation of a volume that is cut into chunks: its basins, merged by mean affinity as greedy
-/// agglomeration of the whole volume merges them. How it is cut does not show in the labels and merges.
+/// agglomeration of the whole volume merges them. How the volume is cut shows in the counts of levels alone.
 pub fn segment<R: Threads + Sync>(
     rt: &R,
     alloc: Global,
@@ -32,39 +43,56 @@ pub fn segment<R: Threads + Sync>(
         answer.labels.labels answer.basins answer.merges.items answer.levels.items) }
 {
     let mut labels = basins(rt, alloc, vol, settings.low, cutting)?;
-    let basins = count_basins(labels.list());
+    let count = count_basins(&labels);
     let done = agglomerate(alloc, vol, &labels, cutting, settings.threshold)?;
-    let merges = in_order(alloc, done.merges)?;
-    apply(alloc, &mut labels, &merges)?;
+    apply(alloc, &mut labels, &done.merges)?;
     Ok(Answer {
         labels,
-        basins,
-        merges,
+        basins: count,
+        merges: done.merges,
         levels: done.levels,
     })
 }
 
-/// The merges of all nodes, starting from basins.
+/// Merges basins, node by node.
 fn agglomerate(
     alloc: Global,
     vol: &Volume,
     labels: &Labels,
     cutting: &Cutting,
     threshold: Threshold,
-) -> Result<Progress, Memory> {
+) -> Result<Agglomeration, Memory>
+    requires labels_fit { labels.now.axes ≡ vol.now.axes }
+    requires cutting_fits { cutting.now.axes ≡ vol.now.axes }
+    requires basins { (low : ℕ) × AreBasins vol.now low labels.now.labels }
+    ensures greedy { IfOk result (λ done. IsGreedyRun vol.now threshold labels.now.labels done.merges.items) }
+    ensures small { IfOk result (λ done. All HasSmallNames done.merges.items) }
+    ensures levels { IfOk result (λ done. AreLevels vol.now threshold cutting.now labels.now.labels done.levels.items) }
+{
     basins_are_connected();
+    works_are_a_run();
+    sorted_merges_are_greedy();
+    greedy_merges_are_lawful();
+    bounded_labels();
     let site = Site::new(vol, labels, cutting, threshold);
-    work_all(alloc, &site)
+    let done = work_all(alloc, &site)?;
+    Ok(Agglomeration {
+        merges: in_order(alloc, done.merges)?,
+        levels: done.levels,
+    })
 }
 
 /// How many basins there are: a basin has the name of one of its voxels, the number of it plus 1.
-fn count_basins(labels: &[u32]) -> u32 {
+fn count_basins(labels: &Labels) -> u32
+    requires { (g : Grid) × (low : ℕ) × AreBasins g low labels.now.labels }
+    ensures { result ≡ length (names labels.now.labels) }
+{
     counted_names();
-    let mut basins: u32 = 0;
-    for v in 0..labels.len() {
-        if labels[v] as usize == v + 1 {
-            basins += 1;
+    let mut count = 0;
+    for v in 0..labels.dims().voxels() {
+        if labels.get(v) == v + 1 {
+            count += 1;
         }
     }
-    basins
+    count
 }

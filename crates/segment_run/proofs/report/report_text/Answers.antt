@@ -1,6 +1,5 @@
-use Rattle.std.proofs.Common.{◌≡◌, ◌+◌, ◌<◌, List, [], ◌∷◌, ◌++◌, length, get_or, drop, string_bytes, sym, ap, ◌∙◌, subst, arith}
-use Rattle.agglo_model.specs.Axes.{voxel_count}
-use Rattle.agglo_model.specs.Report.{Level, level_lines, report}
+use Rattle.std.proofs.Common.{◌≡◌, ◌+◌, ◌<◌, List, [], ◌∷◌, ◌++◌, length, get_or, drop, string_bytes, ap, ◌∙◌, arith}
+use Rattle.agglo_model.specs.Report.{Level, level_lines}
 use Rattle.segment_run.proofs.ReportLines.{gains_line, no_line_left}
 use Rattle.segment_run.proofs.report.report_text.Goals as goal
 

@@ -1,5 +1,5 @@
-use Rattle.std.proofs.Common.{◌≡◌, ◌+◌, ◌<◌, List, [], ◌∷◌, ◌++◌, length, map, set, Option, Some, refl, sym, ap, ◌∙◌, subst₂, length-set}
-use Rattle.agglo_model.specs.Cutting.{Chunking, level_of, child_count}
+use Rattle.std.proofs.Common.{◌≡◌, List, [], ◌∷◌, ◌++◌, length, map, set, Option, Some, sym, ap, ◌∙◌, subst₂, length-set}
+use Rattle.agglo_model.specs.Cutting.{Chunking, level_of}
 use Rattle.agglo_model.specs.RegionGraph.{RegionGraph}
 use Rattle.region_graph.specs.SiteView.{SiteView}
 use Rattle.region_graph.specs.declared.graph.Residue.{Residue}
