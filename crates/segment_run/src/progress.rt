@@ -1,6 +1,7 @@
-ghost use Rattle.std.specs.Prelude.{◌≡◌, ◌+◌, ◌<◌, [], IfOk, length, map, replicate, slice_set};
+ghost use Rattle.std.specs.Prelude.{◌≡◌, ◌+◌, ◌<◌, [], IfOk, length, replicate, slice_set};
 ghost use Rattle.agglo_model.specs.Cutting.{child_count, node_count};
 ghost use Rattle.region_graph.specs.SiteView.{IsSite};
+ghost use Rattle.parent_join.specs.Kids.{graphs_of};
 ghost use Rattle.segment_run.specs.Turns.{AreTaken, AreThere, HasRoom, HasWorked, level_at, no_node, with_node};
 
 use crate::answer::LevelCount;
@@ -83,7 +84,7 @@ fn take_kids(
     requires node { m < node_count cutting.now }
     requires there { AreThere cutting.now m waiting.old }
     ensures { IfOk result (λ kids. AreTaken cutting.now m (child_count cutting.now m) waiting.old waiting.new
-        (map (λ kid. kid.graph) kids.items)) }
+        (graphs_of kids.items)) }
 {
     let mut kids = Vec::new(alloc);
     for i in 0..cutting.child_count(m) {

@@ -1,15 +1,15 @@
-use Rattle.std.proofs.Common.{◌≡◌, List, map, ◌∙◌, ap, subst}
+use Rattle.std.proofs.Common.{◌≡◌, ◌∙◌, ap, subst}
 use Rattle.std.proofs.lemmas.Result.{MatchResult-weaker}
 use Rattle.agglo_model.specs.Cutting.{artificial_faces}
-use Rattle.agglo_model.specs.RegionGraph.{RegionGraph}
 use Rattle.agglo_model.specs.Settling.{Settles}
+use Rattle.parent_join.specs.Kids.{graphs_of}
 use Rattle.segment_run.proofs.NodeTurns.{turn_from_start}
 use Rattle.segment_run.proofs.node_work.work_node.Goals as goal
 
 pub returns : goal.returns
 returns c =
     let site = c.args.site.now in
-    let kids : List RegionGraph = map (λ kid. kid.graph) c.args.kids.items in
+    let kids = graphs_of c.args.kids.items in
     let faces : c.artificial.result ≡ artificial_faces site.cutting c.args.m =
     c.artificial.ensures.value ∙ ap (λ cutting. artificial_faces cutting c.args.m) c.cutting.ensures.value in
     MatchResult-weaker c.settle.result c.settle.ensures

@@ -1,15 +1,11 @@
-use Rattle.std.proofs.Common.{◌≡◌, ◌+◌, ◌<◌, List, [], ◌∷◌, ◌++◌, get_or, map, Some, None, IsSome, refl, sym, ap, ◌∙◌, subst, arith}
+use Rattle.std.proofs.Common.{◌≡◌, ◌+◌, ◌<◌, [], ◌∷◌, ◌++◌, get_or, Some, None, IsSome, refl, sym, ap, ◌∙◌, subst, arith}
 use Rattle.std.specs.Prelude.{slice_set}
 use Rattle.std.proofs.lemmas.List.{map-append}
 use Rattle.agglo_model.specs.Cutting.{Chunking, child_count, child}
-use Rattle.agglo_model.specs.RegionGraph.{RegionGraph}
-use Rattle.region_graph.specs.declared.graph.Residue.{Residue}
+use Rattle.parent_join.specs.Kids.{graphs_of}
 use Rattle.segment_run.specs.Turns.{AreTaken}
 use Rattle.segment_run.proofs.Taking.{waits_inside, none_taken, next_waits, next_taken}
 use Rattle.segment_run.proofs.progress.take_kids.Goals as goal
-
-abbrev graphs_of : List Residue → List RegionGraph
-graphs_of kids = map (λ kid. kid.graph) kids
 
 pub loop-i-init : goal.loop-i-init
 loop-i-init c =

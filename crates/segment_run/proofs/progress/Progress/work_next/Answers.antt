@@ -1,15 +1,12 @@
-use Rattle.std.proofs.Common.{◌≡◌, List, [], ◌∷◌, ◌++◌, length, map, set, Option, Some, sym, ap, ◌∙◌, subst₂, length-set}
+use Rattle.std.proofs.Common.{◌≡◌, List, [], ◌∷◌, ◌++◌, length, set, Option, Some, sym, ap, ◌∙◌, subst₂, length-set}
 use Rattle.agglo_model.specs.Cutting.{Chunking, level_of}
 use Rattle.agglo_model.specs.RegionGraph.{RegionGraph}
 use Rattle.region_graph.specs.SiteView.{SiteView}
-use Rattle.region_graph.specs.declared.graph.Residue.{Residue}
+use Rattle.parent_join.specs.Kids.{graphs_of}
 use Rattle.segment_run.specs.Turns.{AreThere, HasRoom, level_at, with_node}
 use Rattle.segment_run.proofs.Kids.{kids_there, from_children}
 use Rattle.segment_run.proofs.Steps.{all_written, taken_alike, step_of, step_done}
 use Rattle.segment_run.proofs.progress.Progress.work_next.Goals as goal
-
-abbrev graphs_of : List Residue → List RegionGraph
-graphs_of kids = map (λ kid. kid.graph) kids
 
 pub take_kids-requires-clause-there : goal.take_kids-requires-clause-there
 take_kids-requires-clause-there c =
