@@ -1,21 +1,30 @@
+ghost use Rattle.std.specs.Prelude.{◌≡◌, ◌<◌, IfOk};
+ghost use Rattle.agglo_model.specs.Basins.{AreBasins};
+ghost use Rattle.agglo_model.specs.Cutting.{cells_at};
+ghost use Rattle.face_pointers.specs.Pieces.{AreClimbs, IsLeafClimb};
+
 use agglo_model::Memory;
 use chunk_tree::Cutting;
-use face_pointers::resolve;
+use face_pointers::{climb_leaf, resolve};
 use rayon::prelude::*;
 use seg_base::Labels;
 use std::alloc::Global;
 use std::thread::Threads;
-use steepest_ascent::{Ends, climb, whole_basins};
+use steepest_ascent::{Ends, whole_basins};
 use volume_file::Volume;
 
-/// The basin labels of a volume, worked out leaf by leaf of a cutting.
+/// The basin labels of a volume, worked out leaf by leaf of a cutting, the leaves in several threads.
 pub fn basins<R: Threads + Sync>(
     rt: &R,
     alloc: Global,
     vol: &Volume,
     low: u8,
     cutting: &Cutting,
-) -> Result<Labels, Memory> {
+) -> Result<Labels, Memory>
+    requires { cutting.now.axes ≡ vol.now.axes }
+    ensures axes { IfOk result (λ labels. labels.axes ≡ vol.now.axes) }
+    ensures basins { IfOk result (λ labels. AreBasins vol.now low labels.labels) }
+{
     if cutting.leaves() == 1 {
         return whole_basins(alloc, vol, low);
     }
@@ -30,10 +39,18 @@ fn climb_all<R: Threads + Sync>(
     vol: &Volume,
     low: u8,
     cutting: &Cutting,
-) -> Result<Vec<Ends>, Memory> {
+) -> Result<Vec<Ends>, Memory>
+    requires { cutting.now.axes ≡ vol.now.axes }
+    ensures { IfOk result (λ pieces. AreClimbs vol.now low cutting.now pieces.items) }
+{
     (0..cutting.leaves())
         .into_par_iter()
         .with_min_len(1)
-        .map(|leaf: u32| climb(alloc, vol, low, &cutting.cell(leaf)))
+        .map(
+            |leaf: u32| -> Result<Ends, Memory>
+                requires { (leaf < cells_at cutting.now 0) × (cutting.now.axes ≡ vol.now.axes) }
+                ensures { IfOk result (λ ends. IsLeafClimb vol.entry.now low cutting.entry.now leaf ends) }
+            { climb_leaf(alloc, vol, low, cutting, leaf) },
+        )
         .collect::<Result<Vec<Ends>, Memory>>(rt, alloc)?
 }
