@@ -1,3 +1,5 @@
+ghost use Rattle.std.specs.Prelude.{◌<◌};
+
 use mean_fraction::Threshold;
 use seg_base::Dims;
 use segment_run::Settings;
@@ -19,31 +21,33 @@ pub(crate) struct Case {
 /// and with each of them another threshold.
 pub(crate) fn make_case(alloc: Global, seed: u32) -> Result<Case, Fail> {
     let dims = Dims::new(1 + seed % 5, 1 + seed / 5 % 4, 1 + seed / 20 % 3)?;
-    let low = seed / 60 % 4;
-    let (p, q) = match (seed + seed / 60) % 4 {
+    let low = (seed / 60 % 4) as u8;
+    let (p, q) = match (seed % 60 + seed / 60) % 4 {
         0 => (0, 1),
         1 => (1, 1),
         2 => (3, 2),
         _ => (2, 1),
     };
     let settings = Settings {
-        low: low as u8,
+        low,
         threshold: Threshold::new(p, q)?,
         workers: 1,
     };
     // some edges are weaker than `low` where it is above 0, and some are stronger
-    let distinct = (2 + seed / 3 % 4).max(low + 2);
+    let distinct = (2 + (seed / 3 % 4) as u8).max(low + 2);
     let vol = volume(alloc, dims, distinct, seed)?;
     Ok(Case { vol, settings })
 }
 
 /// A volume of these axes, of so few distinct bytes that many edges and means are equal.
-fn volume(alloc: Global, dims: Dims, distinct: u32, seed: u32) -> Result<Volume, Fail> {
+fn volume(alloc: Global, dims: Dims, distinct: u8, seed: u32) -> Result<Volume, Fail>
+    requires { 0 < distinct }
+{
     let mut body = Vec::new(alloc);
     let mut random = seed;
     for _ in 0..dims.body_len() {
         random = random.wrapping_mul(1664525).wrapping_add(1013904223);
-        body.push(((random >> 16) % distinct) as u8)?;
+        body.push((random >> 24) as u8 % distinct)?;
     }
     if body.len() != dims.body_len() as usize {
         return Err("there is one byte for each edge number".into());

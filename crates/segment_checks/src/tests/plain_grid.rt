@@ -1,3 +1,5 @@
+ghost use Rattle.std.specs.Prelude.{◌<◌, IfSome};
+
 use seg_base::Dims;
 use std::alloc::{AllocError, Global};
 use volume_file::Volume;
@@ -49,7 +51,9 @@ pub(crate) fn edges_of(alloc: Global, vol: &Volume) -> Result<Vec<Edge>, AllocEr
 }
 
 /// The voxels that an edge joins, the lower first; none where a voxel has no predecessor on the axis.
-fn ends(dims: &Dims, number: u32) -> Option<(u32, u32)> {
+fn ends(dims: &Dims, number: u32) -> Option<(u32, u32)>
+    ensures { IfSome result (λ ends. ends.0 < ends.1) }
+{
     let voxel = number / 3;
     let (stride, length) = match number % 3 {
         0 => (1, dims.nx()),
