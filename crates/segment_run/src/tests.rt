@@ -156,3 +156,15 @@ fn a_row_below_the_threshold(rt: HostRuntime) -> Result<(), Fail> {
     );
     Ok(())
 }
+
+#[test]
+fn a_row_in_leaves_of_one(rt: HostRuntime) -> Result<(), Fail> {
+    let told = segmented(&rt, rt.alloc(), [200, 50, 180], 1, 50)?;
+    assert_eq!(rt; told.labels.as_slice(), [1, 1, 1, 1].as_slice());
+    assert_eq!(rt; told.merges.as_slice(), [[1, 3, 50, 1, 6]].as_slice());
+    assert_eq!(rt;
+        told.report.as_str(),
+        "voxels 4\nbasins 2\nmerges 1\nregions 1\nlevel 0 nodes 4 merges 0 passed 4\nlevel 1 nodes 2 merges 0 passed 2\nlevel 2 nodes 1 merges 1 passed 0\n"
+    );
+    Ok(())
+}
