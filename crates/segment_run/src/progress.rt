@@ -1,7 +1,7 @@
 ghost use Rattle.std.specs.Prelude.{◌≡◌, ◌+◌, ◌<◌, [], IfOk, length, replicate, slice_set};
 ghost use Rattle.agglo_model.specs.Cutting.{child_count, node_count};
-ghost use Rattle.region_graph.specs.SiteView.{IsSite};
 ghost use Rattle.parent_join.specs.Kids.{graphs_of};
+ghost use Rattle.region_graph.specs.SiteView.{IsSite};
 ghost use Rattle.segment_run.specs.Turns.{AreTaken, AreThere, HasRoom, HasWorked, level_at, no_node, with_node};
 
 use crate::answer::LevelCount;
