@@ -33,7 +33,7 @@ pub(crate) fn make_case(alloc: Global, seed: u32) -> Result<Case, Fail> {
         threshold: Threshold::new(p, q)?,
         workers: 1,
     };
-    // some edges are weaker than `low` where it is above 0, and some are stronger
+    // at least two of the bytes are strong, and all below `low` may come too
     let distinct = (2 + (seed / 3 % 4) as u8).max(low + 2);
     let vol = volume(alloc, dims, distinct, seed)?;
     Ok(Case { vol, settings })
