@@ -149,7 +149,10 @@ impl Case<'_> {
             "voxels {voxels}\nbasins {basins}\nmerges {merges}\nregions {regions}\n"
         )?;
         for (number, [nodes, merges, passed]) in self.levels.iter().enumerate() {
-            write!(text, "level {number} nodes {nodes} merges {merges} passed {passed}\n")?;
+            write!(
+                text,
+                "level {number} nodes {nodes} merges {merges} passed {passed}\n"
+            )?;
         }
         Ok(text)
     }
@@ -165,12 +168,7 @@ fn header(alloc: Global, text: &[u8], axes: [u32; 3], others: [u32; 3]) -> Resul
 }
 
 /// A file of a volume, with its number of channels and the bytes of a body.
-fn volume_file(
-    alloc: Global,
-    axes: [u32; 3],
-    channels: u32,
-    body: &[u8],
-) -> Result<Vec<u8>, Fail> {
+fn volume_file(alloc: Global, axes: [u32; 3], channels: u32, body: &[u8]) -> Result<Vec<u8>, Fail> {
     let mut bytes = header(alloc, b"AFFVOL01", axes, [channels, 0, 0])?;
     bytes.extend_from_slice(body)?;
     Ok(bytes)
@@ -227,11 +225,17 @@ fn check<R: Threads + Sync + Abort>(rt: &R, alloc: Global, case: &Case<'_>) -> R
     let ran = run(rt, alloc, text.as_str(), &volume, NOTHING)?;
     assert_eq!(rt; ran.status, 0, "of {text}");
     let labels = label_file(alloc, case.axes, case.labels)?;
-    assert!(rt; ran.labels.as_slice() == labels.as_slice(), "labels of {text}");
+    assert!(rt;
+        ran.labels.as_slice() == labels.as_slice(),
+        "labels of {text}"
+    );
     let tree = tree_file(alloc, case.axes, case.merge, case.records)?;
     assert!(rt; ran.tree.as_slice() == tree.as_slice(), "tree of {text}");
     let report = case.report(alloc)?;
-    assert!(rt; ran.note.as_slice() == report.as_bytes(), "report of {text}");
+    assert!(rt;
+        ran.note.as_slice() == report.as_bytes(),
+        "report of {text}"
+    );
     assert!(rt; ran.trouble.is_empty());
     assert!(rt; ran.names.as_str() == "l t ");
     assert_eq!(rt; ran.left, 0);
@@ -518,7 +522,10 @@ fn check_refusal<R: Threads + Sync + Abort>(
 ) -> Result<Outcome, Fail> {
     let ran = run(rt, alloc, text, bytes, NOTHING)?;
     assert_eq!(rt; ran.status, status, "of {text}");
-    assert!(rt; ran.trouble.as_slice() == line.as_bytes(), "not told: {line}");
+    assert!(rt;
+        ran.trouble.as_slice() == line.as_bytes(),
+        "not told: {line}"
+    );
     assert!(rt; ran.names.is_empty());
     assert!(rt; ran.note.is_empty());
     Ok(ran)
@@ -570,8 +577,14 @@ fn a_flawed_header_ends_the_reading(rt: HostRuntime) -> Result<(), Fail> {
     let alloc = rt.alloc();
     let table = [
         ([4, 0, 1], "agglo: volume fault 5: axis 1 is zero\n"),
-        ([65_536, 1, 1], "agglo: volume fault 6: axis 0 is above 65535\n"),
-        ([65_535, 4097, 1], "agglo: volume fault 7: too many voxels\n"),
+        (
+            [65_536, 1, 1],
+            "agglo: volume fault 6: axis 0 is above 65535\n",
+        ),
+        (
+            [65_535, 4097, 1],
+            "agglo: volume fault 7: too many voxels\n",
+        ),
     ];
     for (axes, line) in table {
         let bytes = volume_file(alloc, axes, 3, &[0])?;
