@@ -14,8 +14,18 @@ use std::process::Abort;
 use std::test::Fail;
 use std::thread::Threads;
 
-/// The sizes of the leaves: the whole volume, single voxels, and some that do not fit evenly.
-const CHUNKS: [[u32; 3]; 5] = [[9, 9, 9], [1, 1, 1], [2, 2, 2], [3, 1, 2], [2, 3, 1]];
+/// The sizes of the leaves: the whole volume, single voxels, slabs, and some that do not fit evenly.
+const CHUNKS: [[u32; 3]; 9] = [
+    [9, 9, 9],
+    [1, 1, 1],
+    [2, 2, 2],
+    [3, 1, 2],
+    [2, 3, 1],
+    [1, 9, 9],
+    [9, 1, 9],
+    [9, 9, 1],
+    [4, 2, 2],
+];
 
 /// A segmentation in plain numbers.
 #[derive(Drop)]

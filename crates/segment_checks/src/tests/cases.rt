@@ -8,7 +8,7 @@ use std::test::Fail;
 use volume_file::{Head, Volume};
 
 /// How many cases there are.
-pub(crate) const CASES: u32 = 240;
+pub(crate) const CASES: u32 = 540;
 
 /// A volume with the settings of a segmentation.
 #[derive(Drop)]
@@ -18,7 +18,7 @@ pub(crate) struct Case {
 }
 
 /// The case of a seed below `CASES`. Each of the 60 axes from 1, 1, 1 to 5, 4, 3 comes with four values of `low`,
-/// and with each of them another threshold.
+/// and with each of them another threshold, twice and with other bytes.
 pub(crate) fn make_case(alloc: Global, seed: u32) -> Result<Case, Fail> {
     let dims = Dims::new(1 + seed % 5, 1 + seed / 5 % 4, 1 + seed / 20 % 3)?;
     let low = (seed / 60 % 4) as u8;
