@@ -1,5 +1,7 @@
 //! A plain single-threaded program of the same work as agglo, written for speed and with nothing
 //! proved: the yardstick of the benchmark. It also makes the benchmark's volumes.
+mod plain_segment;
+
 use std::env;
 use std::fs::File;
 use std::io::{BufWriter, Read, Result, Write};
@@ -11,8 +13,11 @@ fn main() -> Result<()> {
         ["noise", side, path] => write_volume(path, side.parse().unwrap(), noise),
         ["cells", side, path] => write_volume(path, side.parse().unwrap(), cells),
         ["basins", volume, labels, low] => basins(volume, labels, low.parse().unwrap()),
+        ["segment", volume, labels, tree, low, merge] => {
+            plain_segment::segment(volume, labels, tree, low.parse().unwrap(), merge)
+        }
         _ => {
-            eprintln!("plain: noise|cells SIDE FILE, or basins VOLUME LABELS LOW");
+            eprintln!("plain: noise|cells SIDE FILE, basins VOLUME LABELS LOW, or segment VOLUME LABELS TREE LOW P/Q");
             std::process::exit(2)
         }
     }
