@@ -148,7 +148,6 @@ module _ (s : SiteView) (first n : ℕ) (before after : List (Option RegionGraph
     done_nodes (j ∷ js) [] z = absurd z
     done_nodes (j ∷ js) (w ∷ ws) z = λ i. z.0.same_node i ∷ done_nodes js ws z.1 i
 
-
     same_numbers : IsPermutation (range_with_len first (n - first)) (map (λ (w : Worked). w.node) sorted)
     same_numbers =
         subst (λ l. IsPermutation l (map (λ (w : Worked). w.node) sorted)) so_far.in_order

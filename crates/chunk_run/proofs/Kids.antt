@@ -49,8 +49,10 @@ pub from_children : (s : SiteView) (m p : ℕ) (waiting : List (Option RegionGra
     → AreFromChildren s n kids
 from_children s m p waiting merges levels so_far n kids left = record {
   one_each = left.one_each;
-  residues = λ i below. (labels_after s.labels so_far.works (child s.cutting n i),
-      (kids_are s m p waiting merges levels so_far n kids left).residues i below);
+  residues = λ i below. (
+    labels_after s.labels so_far.works (child s.cutting n i),
+    (kids_are s m p waiting merges levels so_far n kids left).residues i below,
+  );
 }
 
 some_same : (x y : ℕ) → Some x ≡ Some y → x ≡ y
@@ -63,14 +65,14 @@ module _ (s : SiteView) (h : IsChunking s.cutting) (first n : ℕ) (node : n < n
   child_first i below = elim (cases_lt (child s.cutting n i) first) [
     | inl before ↦ before
     | inr past ↦
-      let inner = is_inner s.cutting n (omega arith) in
-      absurd (omega (
-        arith,
-        inner,
-        level,
-        child_level s.cutting h n node inner i below,
-        level_of_le s.cutting first (child s.cutting n i) past (child_below s.cutting h n node inner i below),
-      ))
+        let inner = is_inner s.cutting n (omega arith) in
+        absurd (omega (
+          arith,
+          inner,
+          level,
+          child_level s.cutting h n node inner i below,
+          level_of_le s.cutting first (child s.cutting n i) past (child_below s.cutting h n node inner i below),
+        ))
   ]
 
   module _ (waiting : List (Option RegionGraph)) (merges : List Merge) (levels : List Level)
@@ -78,9 +80,10 @@ module _ (s : SiteView) (h : IsChunking s.cutting) (first n : ℕ) (node : n < n
     -- all children wait
     pub kids_there : AreThere s.cutting n waiting
     kids_there i below =
-        let own = child s.cutting n i in
-        (residue_of so_far.residues own,
-        so_far.waiting_are own n (child_first i below) (child_family s.cutting h n node i below).1 (omega arith))
+        let own = child s.cutting n i in (
+          residue_of so_far.residues own,
+          so_far.waiting_are own n (child_first i below) (child_family s.cutting h n node i below).1 (omega arith),
+        )
 
     module _ (after : List (Option RegionGraph)) (kids : List RegionGraph)
         (taken : AreTaken s.cutting n (child_count s.cutting n) waiting after kids) where

@@ -85,12 +85,12 @@ parts_done {A} {E} s lanes parts done long each (lists, all, listed) =
 pub parts_more : {A E : Type 0} (parts : List (Result (Vec Worked A) E)) (done : List Worked) (list : Vec Worked A)
     → ArePartsDone parts done → ArePartsDone (parts ++ Ok list ∷ []) (done ++ list.items)
 parts_more {A} {E} parts done list (lists, all, listed) = (
-      lists ++ list ∷ [],
-      ap (λ l. l ++ Ok list ∷ []) all ∙ sym (map-append answer lists (list ∷ [])),
-      ap (λ l. l ++ list.items) listed
+  lists ++ list ∷ [],
+  ap (λ l. l ++ Ok list ∷ []) all ∙ sym (map-append answer lists (list ∷ [])),
+  ap (λ l. l ++ list.items) listed
       ∙ sym (flat_map-append (λ (l : Vec Worked A). l.items) lists (list ∷ [])
       ∙ ap (λ l. flat_map (λ (l : Vec Worked A). l.items) lists ++ l) (append-nil list.items)),
-    )
+)
   where
     answer : Vec Worked A → Result (Vec Worked A) E
     answer list = Ok list

@@ -77,10 +77,7 @@ fn work_lane<G: Gate>(
 }
 
 /// What the lanes have done, in one list, lane after lane, or the first error.
-fn collect(
-    alloc: Global,
-    parts: Vec<Result<Vec<Worked>, Memory>>,
-) -> Result<Vec<Worked>, Memory>
+fn collect(alloc: Global, parts: Vec<Result<Vec<Worked>, Memory>>) -> Result<Vec<Worked>, Memory>
     ensures { IfOk result (λ done. ArePartsDone parts.items done.items) }
 {
     let mut done = Vec::new(alloc);

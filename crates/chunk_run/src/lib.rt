@@ -6,11 +6,13 @@
 
 mod count;
 mod gate;
+mod handing;
 mod lanes;
 mod node_work;
 mod progress;
 mod running;
-mod handing;
+#[cfg(test)]
+mod tests;
 
 pub use count::LevelCount;
 pub use gate::{Gate, Open};

@@ -7,8 +7,8 @@ ghost use Rattle.chunk_run.specs.Turns.{HasRoom, level_at, no_node, with_node};
 
 use crate::count::LevelCount;
 use crate::gate::Gate;
-use crate::lanes::{Worked, in_node_order, work_lanes};
 use crate::handing::hand_out;
+use crate::lanes::{Worked, in_node_order, work_lanes};
 use agglo_model::Memory;
 use merge_tree::Merge;
 use mutual_merge::Settled;

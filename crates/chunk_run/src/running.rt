@@ -6,8 +6,8 @@ ghost use Rattle.chunk_run.specs.Lanes.{HasRun};
 
 use crate::count::LevelCount;
 use crate::gate::Gate;
-use crate::progress::Progress;
 use crate::handing::level_end;
+use crate::progress::Progress;
 use agglo_model::Memory;
 use merge_tree::Merge;
 use region_graph::Site;

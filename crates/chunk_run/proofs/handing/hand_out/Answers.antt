@@ -14,9 +14,11 @@ use Rattle.chunk_run.proofs.Steps.{taken_alike}
 use Rattle.chunk_run.proofs.handing.hand_out.Goals as goal
 
 pub loop-node-init : goal.loop-node-init
-loop-node-init c =
-    (c.in_ok-lanes.ensures.count, omega arith,
-    handed_none c.args.site.now c.args.first c.args.waiting.now (jobs_in c.in_ok-lanes.lanes.items) c.in_ok-lanes.ensures.empty)
+loop-node-init c = (
+  c.in_ok-lanes.ensures.count,
+  omega arith,
+  handed_none c.args.site.now c.args.first c.args.waiting.now (jobs_in c.in_ok-lanes.lanes.items) c.in_ok-lanes.ensures.empty,
+)
 
 pub take_kids-requires-clause-there : goal.take_kids-requires-clause-there
 take_kids-requires-clause-there c =
@@ -43,9 +45,11 @@ loop-node-preserved c =
     let taken = taken_alike s.cutting c.cutting-cutting.result.now n c.loop-node.waiting c.loop-node.waiting c.take_kids.new.waiting
     (graphs_of c.in_ok-kids.kids.items) c.cutting-cutting.ensures.value refl c.in_ok-kids.ensures in
     let some : 0 < c.min-count.result = omega (arith, c.min-count.ensures, c.requires.workers, c.requires.some) in
-    let inside : at < length lanes = omega (arith, c.loop-node.invariant.0, mod_below (n - c.args.first) c.min-count.result some) in
-    (length-set lanes at lane ∙ c.loop-node.invariant.0, omega (arith, c.loop-node.invariant.1),
-    handed_next s c.args.first n c.args.waiting.now c.loop-node.waiting (jobs_in lanes) c.loop-node.invariant.2
-    c.cutting-cutting.ensures.site.chunking (omega (arith, c.requires.nodes)) c.loop-node.invariant.1 level c.take_kids.new.waiting job refl taken
-    (jobs_in (slice_set lanes at lane))
-    (handed_more lanes at c.index_mut.result.now lane job inside (c.in_ok-push.ensures.items ∙ ap (λ (l : Lane). l.jobs.items ++ job ∷ []) c.index_mut.ensures.value)))
+    let inside : at < length lanes = omega (arith, c.loop-node.invariant.0, mod_below (n - c.args.first) c.min-count.result some) in (
+      length-set lanes at lane ∙ c.loop-node.invariant.0,
+      omega (arith, c.loop-node.invariant.1),
+      handed_next s c.args.first n c.args.waiting.now c.loop-node.waiting (jobs_in lanes) c.loop-node.invariant.2
+          c.cutting-cutting.ensures.site.chunking (omega (arith, c.requires.nodes)) c.loop-node.invariant.1 level c.take_kids.new.waiting job refl taken
+          (jobs_in (slice_set lanes at lane))
+          (handed_more lanes at c.index_mut.result.now lane job inside (c.in_ok-push.ensures.items ∙ ap (λ (l : Lane). l.jobs.items ++ job ∷ []) c.index_mut.ensures.value)),
+    )

@@ -11,10 +11,10 @@ returns-then-level_of-level c =
     let level = c.args.level in
     elim (cases_lt m (first_node t (level + 1))) [
       | inl inside ↦
-        let next : level + 1 ≡ suc level = omega arith in
-        let to : m < first_node t (suc level) = subst (λ k. m < first_node t k) next inside in
-        let is = level_of-is t level m (record { reached = c.requires.level; from = subst (λ k. k ≤ m) c.requires.first c.loop-m.invariant.0; to = to }) in
-        absurd (c.if-level_of-level.true (c.level_of.ensures.value ∙ is))
+          let next : level + 1 ≡ suc level = omega arith in
+          let to : m < first_node t (suc level) = subst (λ k. m < first_node t k) next inside in
+          let is = level_of-is t level m (record { reached = c.requires.level; from = subst (λ k. k ≤ m) c.requires.first c.loop-m.invariant.0; to = to }) in
+          absurd (c.if-level_of-level.true (c.level_of.ensures.value ∙ is))
       | inr past ↦ omega (arith, past, c.loop-m.invariant.1)
     ]
 

@@ -11,14 +11,16 @@ loop-level-init g c =
     let s = c.args.site.now in
     let start = c.in_ok-progress.progress in
     let count : c.levels.result ≡ last_level s.cutting + 1 =
-    c.levels.ensures.value ∙ ap (λ cutting. last_level cutting + 1) c.cutting-cutting.ensures.value in
-    (refl, record {
-      so_far = subst (λ l. HasWorked s 0 0 l start.merges.items start.levels.items) (sym c.in_ok-progress.ensures.none_waiting)
-          (subst (λ l. HasWorked s 0 0 [] l start.levels.items) (sym c.in_ok-progress.ensures.no_merge)
-          (start_of_run s c.cutting-cutting.ensures.site start.levels.items
-          (c.in_ok-progress.ensures.levels ∙ ap (λ n. replicate n no_node) count)));
-      numbers = c.in_ok-progress.ensures.none_worked;
-    })
+    c.levels.ensures.value ∙ ap (λ cutting. last_level cutting + 1) c.cutting-cutting.ensures.value in (
+      refl,
+      record {
+        so_far = subst (λ l. HasWorked s 0 0 l start.merges.items start.levels.items) (sym c.in_ok-progress.ensures.none_waiting)
+            (subst (λ l. HasWorked s 0 0 [] l start.levels.items) (sym c.in_ok-progress.ensures.no_merge)
+            (start_of_run s c.cutting-cutting.ensures.site start.levels.items
+            (c.in_ok-progress.ensures.levels ∙ ap (λ n. replicate n no_node) count)));
+        numbers = c.in_ok-progress.ensures.none_worked;
+      },
+    )
 
 pub work_level-requires-clause-some : goal.work_level-requires-clause-some
 work_level-requires-clause-some g c κs within =

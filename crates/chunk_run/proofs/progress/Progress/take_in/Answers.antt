@@ -45,10 +45,14 @@ loop-worked-preserved c =
     c.args.done.items c.requires.nodes at.0 turn.0 run.waiting.items run.merges.items run.levels.items at.2.0 at.2.1 at.2.2 w turn.1 in
     let level = c.level_of.ensures.value ∙ ap (λ t. level_of t m) c.cutting-cutting.ensures.value in
     let added = c.in_ok-add_node.ensures in
-    let next : suc m ≡ m + 1 = omega arith in
-    (omega (arith, length-append c.loop-worked.yielded (w ∷ []), at.0),
-    added.worked ∙ ap (λ l. l ++ m ∷ []) at.1 ∙ sym (range_more 0 m m (omega arith)) ∙ ap (range_with_len 0) next,
-    (at.2.0, at.2.1,
-    step_done s c.args.first m (c.args.first + length c.args.done.items) run.waiting.items run.merges.items run.levels.items at.2.0 made left step
-    c.add_node.new.self.waiting.items c.add_node.new.self.merges.items c.add_node.new.self.levels.items added.waiting added.merges
-    (added.levels ∙ (λ i. slice_set run.levels.items (level i) (with_node (level_at run.levels.items (level i)) (length made) (length left.regions))))))
+    let next : suc m ≡ m + 1 = omega arith in (
+      omega (arith, length-append c.loop-worked.yielded (w ∷ []), at.0),
+      added.worked ∙ ap (λ l. l ++ m ∷ []) at.1 ∙ sym (range_more 0 m m (omega arith)) ∙ ap (range_with_len 0) next,
+      (
+        at.2.0,
+        at.2.1,
+        step_done s c.args.first m (c.args.first + length c.args.done.items) run.waiting.items run.merges.items run.levels.items at.2.0 made left step
+            c.add_node.new.self.waiting.items c.add_node.new.self.merges.items c.add_node.new.self.levels.items added.waiting added.merges
+            (added.levels ∙ (λ i. slice_set run.levels.items (level i) (with_node (level_at run.levels.items (level i)) (length made) (length left.regions)))),
+      ),
+    )

@@ -44,10 +44,12 @@ take_in-requires-clause-done g c =
     let end : c.args.end ≡ c.args.first + length sorted = omega (arith, many, c.requires.some) in
     let written = all_written run.waiting.len after run.waiting.items
     (taken.so_far.one_place_each ∙ sym c.requires.so_far.so_far.one_place_each)
-    (sym (ap length c.deref_mut.ensures.value) ∙ c.deref_mut.ensures.len) in
-    (kid_lists handed.jobs, turns,
-    subst (λ l. HasTaken s c.args.first c.args.first (c.args.first + length sorted) l run.merges.items run.levels.items (kid_lists handed.jobs)) (sym written)
-    (subst (λ p. HasTaken s c.args.first c.args.first p after run.merges.items run.levels.items (kid_lists handed.jobs)) end taken))
+    (sym (ap length c.deref_mut.ensures.value) ∙ c.deref_mut.ensures.len) in (
+      kid_lists handed.jobs,
+      turns,
+      subst (λ l. HasTaken s c.args.first c.args.first (c.args.first + length sorted) l run.merges.items run.levels.items (kid_lists handed.jobs)) (sym written)
+          (subst (λ p. HasTaken s c.args.first c.args.first p after run.merges.items run.levels.items (kid_lists handed.jobs)) end taken),
+    )
 
 pub returns : goal.returns
 returns g c =
