@@ -20,7 +20,7 @@ use command_words::{Job, read_words};
 use merge_tree::Tree;
 use refusals::{Refusal, tell};
 use seg_io::{Desk, Port, put_all};
-use segment_run::{Answer, Settings, report_text, segment};
+use segment_run::{Answer, Open, Settings, report_text, segment};
 use std::alloc::Global;
 use std::thread::Threads;
 use steepest_ascent::whole_basins;
@@ -195,7 +195,7 @@ fn run_segment<R: Threads + Sync, D: Desk>(
     bounded_labels();
     greedy_merges_are_lawful();
     let read = read_cut_volume(alloc, desk, volume, chunk)?;
-    let answer = segment(rt, alloc, &read.volume, &read.cutting, settings)?;
+    let answer = segment(rt, alloc, &read.volume, &read.cutting, settings, &Open)?;
     let report = report_text(alloc, &answer)?;
     let Answer { labels, merges, .. } = answer;
     let tree = Tree::of(read.volume.dims(), settings.threshold, merges);

@@ -8,7 +8,7 @@ use chunk_tree::Cutting;
 use plain_basins::{basin_labels, name_count};
 use plain_grid::edges_of;
 use plain_merging::{Pair, agglomerate};
-use segment_run::segment;
+use segment_run::{Open, segment};
 use std::alloc::{AllocError, Global};
 use std::process::Abort;
 use std::test::Fail;
@@ -57,7 +57,7 @@ fn by_leaves<R: Threads + Sync>(
     chunk: [u32; 3],
 ) -> Result<Told, Fail> {
     let cutting = Cutting::new(case.vol.dims(), chunk)?;
-    let answer = segment(rt, alloc, &case.vol, &cutting, &case.settings)?;
+    let answer = segment(rt, alloc, &case.vol, &cutting, &case.settings, &Open)?;
     let mut merges = Vec::new(alloc);
     for merge in &answer.merges {
         let contact = merge.contact;

@@ -21,7 +21,7 @@ use Rattle.agglo_model.specs.Work.{work_of}
 use Rattle.agglo_model.proofs.Levels.{first_node_le}
 use Rattle.merge_tree.specs.Renaming.{HasSmallNames}
 use Rattle.region_graph.specs.SiteView.{SiteView}
-use Rattle.segment_run.specs.Turns.{HasWorked, count_among}
+use Rattle.chunk_run.specs.Turns.{HasWorked, count_among}
 
 -- a level counts all its nodes
 all_counted : (c : Chunking) (works : List (List Merge)) (residues : List RegionGraph) (k : ℕ) → k ≤ last_level c

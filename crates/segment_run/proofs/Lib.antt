@@ -1,16 +1,4 @@
 pub mod Ordered
 pub mod ReportLines
-pub mod Families
-pub mod NodeTurns
-pub mod Taking
-pub mod RangeSums
-pub mod LevelCounts
-pub mod Kids
-pub mod Going
-pub mod FewerNames
-pub mod PassedNames
-pub mod Rooms
-pub mod Steps
-pub mod Starting
 pub mod TiesApart
 pub mod Ending

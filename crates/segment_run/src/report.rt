@@ -2,8 +2,9 @@ ghost use Rattle.std.specs.Prelude.{◌≡◌, ◌∷◌, [], IfOk, length, stri
 ghost use Rattle.agglo_model.specs.Axes.{voxel_count};
 ghost use Rattle.agglo_model.specs.Report.{level_lines, report, report_head};
 
-use crate::answer::{Answer, LevelCount};
+use crate::answer::Answer;
 use agglo_model::Memory;
+use chunk_run::LevelCount;
 use std::alloc::Global;
 
 /// The report on a segmentation, in plain decimals: the numbers of voxels, of basins, of merges and of regions,

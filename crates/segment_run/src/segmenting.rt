@@ -5,15 +5,14 @@ ghost use Rattle.agglo_model.specs.Grid.{Grid};
 ghost use Rattle.agglo_model.specs.Segmentation.{AreLevels, IsSegmentation};
 ghost use Rattle.merge_tree.specs.Renaming.{HasSmallNames};
 
-use crate::answer::{Answer, LevelCount, Settings};
+use crate::answer::{Answer, Settings};
 use crate::basin_run::basins;
-use crate::progress::work_all;
 use agglo_model::Memory;
 use agglo_model::laws::{bounded_labels, counted_names};
 use agglo_model::laws_of_merging::{greedy_merges_are_lawful, sorted_merges_are_greedy};
 use agglo_model::laws_of_nodes::{basins_are_connected, works_are_a_run};
+use chunk_run::{Gate, LevelCount, run_tree};
 use chunk_tree::Cutting;
-use mean_fraction::Threshold;
 use merge_tree::{Merge, apply, in_order};
 use region_graph::Site;
 use seg_base::Labels;
@@ -30,12 +29,14 @@ struct Agglomeration {
 
 /// The segmentation of a volume that is cut into chunks: its basins, merged by mean affinity as greedy
 /// agglomeration of the whole volume merges them. How the volume is cut shows in the counts of levels alone.
-pub fn segment<R: Threads + Sync>(
+/// The gate is told of each node once before it is merged.
+pub fn segment<R: Threads + Sync, G: Gate>(
     rt: &R,
     alloc: Global,
     vol: &Volume,
     cutting: &Cutting,
     settings: &Settings,
+    gate: &G,
 ) -> Result<Answer, Memory>
     requires { cutting.now.axes ≡ vol.now.axes }
     ensures axes { IfOk result (λ answer. answer.labels.axes ≡ vol.now.axes) }
@@ -44,7 +45,7 @@ pub fn segment<R: Threads + Sync>(
 {
     let mut labels = basins(rt, alloc, vol, settings.low, cutting)?;
     let count = count_basins(&labels);
-    let done = agglomerate(alloc, vol, &labels, cutting, settings.threshold)?;
+    let done = agglomerate(rt, alloc, vol, &labels, cutting, settings, gate)?;
     apply(alloc, &mut labels, &done.merges)?;
     Ok(Answer {
         labels,
@@ -55,27 +56,30 @@ pub fn segment<R: Threads + Sync>(
 }
 
 /// Merges basins, node by node.
-fn agglomerate(
+fn agglomerate<R: Threads + Sync, G: Gate>(
+    rt: &R,
     alloc: Global,
     vol: &Volume,
     labels: &Labels,
     cutting: &Cutting,
-    threshold: Threshold,
+    settings: &Settings,
+    gate: &G,
 ) -> Result<Agglomeration, Memory>
     requires labels_fit { labels.now.axes ≡ vol.now.axes }
     requires cutting_fits { cutting.now.axes ≡ vol.now.axes }
     requires basins { (low : ℕ) × AreBasins vol.now low labels.now.labels }
-    ensures greedy { IfOk result (λ done. IsGreedyRun vol.now threshold labels.now.labels done.merges.items) }
+    ensures greedy { IfOk result (λ done. IsGreedyRun vol.now settings.now.threshold labels.now.labels done.merges.items) }
     ensures small { IfOk result (λ done. All HasSmallNames done.merges.items) }
-    ensures levels { IfOk result (λ done. AreLevels vol.now threshold cutting.now labels.now.labels done.levels.items) }
+    ensures levels { IfOk result (λ done. AreLevels vol.now settings.now.threshold cutting.now labels.now.labels done.levels.items) }
 {
     basins_are_connected();
     works_are_a_run();
     sorted_merges_are_greedy();
     greedy_merges_are_lawful();
     bounded_labels();
-    let site = Site::new(vol, labels, cutting, threshold);
-    let done = work_all(alloc, &site)?;
+    let site = Site::new(vol, labels, cutting, settings.threshold);
+    let workers = settings.workers.clamp(1, 32);
+    let done = run_tree(rt, alloc, &site, workers, gate)?;
     Ok(Agglomeration {
         merges: in_order(alloc, done.merges)?,
         levels: done.levels,

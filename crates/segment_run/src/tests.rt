@@ -1,4 +1,4 @@
-use crate::{Settings, basins, report_text, segment};
+use crate::{Open, Settings, basins, report_text, segment};
 use agglo_model::Memory;
 use chunk_tree::Cutting;
 use mean_fraction::Threshold;
@@ -113,7 +113,7 @@ fn segmented<R: Threads + Sync>(
         threshold: Threshold::new(mean, 1)?,
         workers: 1,
     };
-    let answer = segment(rt, alloc, &vol, &cutting, &settings)?;
+    let answer = segment(rt, alloc, &vol, &cutting, &settings, &Open)?;
     let report = report_text(alloc, &answer)?;
     let mut merges = Vec::new(alloc);
     for merge in &answer.merges {

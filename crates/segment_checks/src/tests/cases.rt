@@ -17,8 +17,11 @@ pub(crate) struct Case {
     pub(crate) settings: Settings,
 }
 
+/// How many lanes there are, by the seed.
+const WORKERS: [u32; 6] = [1, 2, 3, 5, 8, 32];
+
 /// The case of a seed below `CASES`. Each of the 60 axes from 1, 1, 1 to 5, 4, 3 comes with four values of `low`,
-/// and with each of them another threshold, twice and with other bytes.
+/// and with each of them another threshold, twice and with other bytes; six numbers of workers take turns.
 pub(crate) fn make_case(alloc: Global, seed: u32) -> Result<Case, Fail> {
     let dims = Dims::new(1 + seed % 5, 1 + seed / 5 % 4, 1 + seed / 20 % 3)?;
     let low = (seed / 60 % 4) as u8;
@@ -31,7 +34,7 @@ pub(crate) fn make_case(alloc: Global, seed: u32) -> Result<Case, Fail> {
     let settings = Settings {
         low,
         threshold: Threshold::new(p, q)?,
-        workers: 1,
+        workers: WORKERS[(seed % 6) as usize],
     };
     // at least two of the bytes are strong, and all below `low` may come too
     let distinct = (2 + (seed / 3 % 4) as u8).max(low + 2);

@@ -1,0 +1,15 @@
+pub mod Families
+pub mod NodeTurns
+pub mod Taking
+pub mod RangeSums
+pub mod LevelCounts
+pub mod Kids
+pub mod Going
+pub mod FewerNames
+pub mod PassedNames
+pub mod Rooms
+pub mod Steps
+pub mod Starting
+pub mod Parts
+pub mod Numbers
+pub mod Handed

@@ -1,0 +1,19 @@
+//! The work of all nodes of a cutting, level by level, the nodes of a level in several lanes at a time.
+//!
+//! It stands on `parent_join`, `mutual_merge` and `merge_tree` for the work of a node, and on `work_laws` for
+//! why nodes of one level may be worked in any order. The runs of the program stand on it.
+#![tactic(auto)]
+
+mod count;
+mod gate;
+mod handing;
+mod lanes;
+mod node_work;
+mod progress;
+mod running;
+#[cfg(test)]
+mod tests;
+
+pub use count::LevelCount;
+pub use gate::{Gate, Open};
+pub use running::{TreeRun, run_tree};

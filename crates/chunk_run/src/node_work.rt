@@ -1,0 +1,44 @@
+ghost use Rattle.std.specs.Prelude.{◌<◌, IfOk};
+ghost use Rattle.agglo_model.specs.Cutting.{node_count};
+ghost use Rattle.parent_join.specs.Kids.{graphs_of};
+ghost use Rattle.chunk_run.specs.Turns.{AreFromChildren, IsStartOf, TakesTurn};
+
+use agglo_model::Memory;
+use mutual_merge::{Settled, settle};
+use parent_join::{join, residues_fit};
+use region_graph::{Graph, Residue, Site, of_leaf};
+use std::alloc::Global;
+use work_laws::{leaves_take_turns, parents_take_turns};
+
+/// The work of node `m`: the graph of its cell, joined from the residues of its children if it is no leaf, and
+/// settled. Nothing else is read, so nodes of one level may be worked in any order.
+pub(crate) fn work_node(
+    alloc: Global,
+    site: &Site,
+    m: u32,
+    kids: Vec<Residue>,
+) -> Result<Settled, Memory>
+    requires node { m < node_count site.now.cutting }
+    requires kids { AreFromChildren site.now m (graphs_of kids.items) }
+    ensures { IfOk result (λ settled.
+        TakesTurn site.now m (graphs_of kids.items) settled.merges.items settled.residue) }
+{
+    leaves_take_turns();
+    parents_take_turns();
+    let graph = start_graph(alloc, site, m, kids)?;
+    settle(alloc, graph, site.threshold(), site.cutting().artificial(m))
+}
+
+/// The graph that node `m` starts from.
+fn start_graph(alloc: Global, site: &Site, m: u32, kids: Vec<Residue>) -> Result<Graph, Memory>
+    requires node { m < node_count site.now.cutting }
+    requires kids { AreFromChildren site.now m (graphs_of kids.items) }
+    ensures { IfOk result (λ graph. IsStartOf site.now m (graphs_of kids.items) graph) }
+{
+    residues_fit();
+    if m < site.cutting().leaves() {
+        of_leaf(alloc, site, m)
+    } else {
+        join(alloc, site, m, kids)
+    }
+}
