@@ -1,5 +1,5 @@
 -- A name that a node doesn't pass to its parent is stuck, so it is in no later merge.
-use Rattle.std.proofs.Common.{◌≡◌, ◌≢◌, inl, inr, ℕ, zero, suc, ◌+◌, ◌<◌, ◌≤◌, List, [], ◌∷◌, length, get_or, Contains, sym, ap, ◌∙◌, subst, arith}
+use Rattle.std.proofs.Common.{◌≡◌, ◌≢◌, inl, inr, ℕ, zero, suc, ◌+◌, ◌<◌, ◌≤◌, List, [], ◌∷◌, length, take, get_or, Contains, sym, ap, ◌∙◌, subst, arith}
 use Rattle.std.proofs.lemmas.Bool.{cases_lt}
 use Rattle.std.proofs.lemmas.List.{take_all, get_or_past}
 use Rattle.agglo_model.specs.Grid.{Grid}
@@ -7,7 +7,7 @@ use Rattle.agglo_model.specs.PairOrder.{Threshold}
 use Rattle.agglo_model.specs.Greedy.{Merge, after_merge, after_merges}
 use Rattle.agglo_model.specs.Connected.{AreConnected}
 use Rattle.agglo_model.specs.Cutting.{Chunking}
-use Rattle.agglo_model.specs.Work.{IsNodeStep, IsWork, all_merges, work_of, labels_before, labels_after}
+use Rattle.agglo_model.specs.Work.{IsNodeStep, IsWork, all_merges, work_of, labels_before, labels_within, labels_after}
 use Rattle.agglo_model.specs.NodeLaws.{AreWorksOn, IsDropped, DroppedNamesStay}
 use Rattle.agglo_model.proofs.ConnectedWorks.{connected_after_step}
 use Rattle.agglo_model.proofs.Works.{StepsKeep, work_at, works_keep, connected_before}
@@ -25,6 +25,17 @@ work_each P R g t c m keep each labels (step ∷ steps) connected work holds (su
     work_each P R g t c m keep each (after_merge labels step) steps
     (connected_after_step g t c m labels step work.0 connected) work.1 (keep labels step connected work.0 holds)
     k d (omega arith)
+
+-- what the steps of a work keep, its first merges keep
+work_within : (P : List ℕ → Type 0) (g : Grid) (t : Threshold) (c : Chunking) (m : ℕ) → StepsKeep P g t c m
+    → (labels : List ℕ) (work : List Merge) → AreConnected g.axes labels → IsWork g t c m labels work → P labels
+    → (k : ℕ) → P (after_merges labels (take k work))
+work_within P g t c m keep labels [] connected work holds zero = holds
+work_within P g t c m keep labels [] connected work holds (suc k) = holds
+work_within P g t c m keep labels (step ∷ steps) connected work holds zero = holds
+work_within P g t c m keep labels (step ∷ steps) connected work holds (suc k) =
+    work_within P g t c m keep (after_merge labels step) steps
+    (connected_after_step g t c m labels step work.0 connected) work.1 (keep labels step connected work.0 holds) k
 
 module _ (g : Grid) (t : Threshold) (c : Chunking) (labels : List ℕ) (works : List (List Merge)) (on : AreWorksOn g t c labels works)
     (m x : ℕ) (node : m < length works) (stuck : IsStuck g t x (labels_after labels works m)) where
@@ -45,6 +56,15 @@ module _ (g : Grid) (t : Threshold) (c : Chunking) (labels : List ℕ) (works : 
     | inr past ↦ subst (IsStuck g t x) (past_last n past) (stuck_at (length works) node (omega arith))
   ]
 
+  stuck_within : (n k : ℕ) → m < n → IsStuck g t x (labels_within labels works n k)
+  stuck_within n k after = elim (cases_lt n (length works)) [
+    | inl less ↦ work_within (IsStuck g t x) g t c n (steps_keep_stuck g t c n x)
+        (labels_before labels works n) (work_of works n) (connected_before g t c labels works on n (omega arith))
+        (work_at g t c labels works on.works_are n less) (stuck_at n after (omega arith)) k
+    | inr past ↦ subst (λ w. IsStuck g t x (after_merges (labels_before labels works n) w))
+        (sym (ap (take k) (get_or_past works n [] (omega arith)) ∙ take_all k [] (omega arith))) (stuck_later n after)
+  ]
+
   merge_later : (n : ℕ) (merge : Merge) → m < n → Contains (work_of works n) merge
       → (merge.survivor ≢ x) × (merge.absorbed ≢ x)
   merge_later n merge after (k, below, is) = elim (cases_lt n (length works)) [
@@ -61,8 +81,8 @@ module _ (g : Grid) (t : Threshold) (c : Chunking) (labels : List ℕ) (works : 
   is_dropped : IsDropped g t labels works m x
   is_dropped = record {
     in_no_merge = merge_later;
-    in_no_pair = λ n y z after first reaches.
-        stuck_apart g t (labels_before labels works n) x y z (stuck_later n after) first.touching reaches;
+    in_no_pair = λ n k y z after first reaches.
+        stuck_apart g t (labels_within labels works n k) x y z (stuck_within n k after) first.touching reaches;
   }
 
 pub dropped_names_stay : DroppedNamesStay

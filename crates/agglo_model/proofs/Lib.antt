@@ -58,6 +58,7 @@ pub mod WorksRun
 pub mod NodeTests
 pub mod HeaderFlaws
 pub mod TreeBodies
+pub mod VolumesBack
 pub mod RecordFlaws
 pub mod SoundTrees
 pub mod ReadBack

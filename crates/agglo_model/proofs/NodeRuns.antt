@@ -9,7 +9,7 @@ use Rattle.agglo_model.specs.Greedy.{Merge, after_merge}
 use Rattle.agglo_model.specs.Cutting.{Chunking}
 use Rattle.agglo_model.specs.Freezing.{is_part, IsFrozen}
 use Rattle.agglo_model.specs.Work.{IsFree, IsReciprocal, IsWork}
-use Rattle.agglo_model.specs.NodeLaws.{WorksAgree, OrderedWorkIsWork}
+use Rattle.agglo_model.specs.NodeLaws.{NodeDiamond, WorksAgree, OrderedWorkIsWork}
 use Rattle.agglo_model.proofs.ContactEdges.{InContact-names}
 use Rattle.agglo_model.proofs.Renames.{new_name, label-renamed}
 use Rattle.agglo_model.proofs.Diamonds.{diamond}
@@ -51,9 +51,8 @@ free_alike c m labels others x same free = record {
   unfrozen = λ frozen. free.unfrozen (frozen_alike c m others labels x (λ u. (same u).1) frozen);
 }
 
--- a reciprocal pair of a node is still one after the merge of another
-reciprocal_kept : (g : Grid) (t : Threshold) (c : Chunking) (m : ℕ) → ArePairsKept (IsReciprocal g t c m) g
-reciprocal_kept g t c m labels a b d e one other apart =
+pub node_diamond : NodeDiamond
+node_diamond g t c m labels a b d e one other apart =
     let square = diamond g t labels a b d e one.pair other.pair apart in
     let pb : b ≢ 0 = omega (arith, InContact-names g labels a b one.pair.touching) in
     let names = square.apart in
@@ -62,11 +61,22 @@ reciprocal_kept g t c m labels a b d e one other apart =
     let e_same : (u : ℕ) → (label_of labels u ≡ e) ↔ (label_of (renamed labels a b) u ≡ e) =
     λ u. let stay = voxels_stay labels a b e u pb names.2 names.3 in (stay.1, stay.0) in
     record {
-      still = record {
+      apart = names;
+      still_reciprocal = record {
         pair = square.still_mutual;
         a_free = free_alike c m labels (renamed labels a b) d d_same other.a_free;
         b_free = free_alike c m labels (renamed labels a b) e e_same other.b_free;
       };
+      same_contact = square.same_contact;
+      either_order = square.either_order;
+    }
+
+-- a reciprocal pair of a node is still one after the merge of another
+reciprocal_kept : (g : Grid) (t : Threshold) (c : Chunking) (m : ℕ) → ArePairsKept (IsReciprocal g t c m) g
+reciprocal_kept g t c m labels a b d e one other apart =
+    let square = node_diamond g t c m labels a b d e one other apart in
+    record {
+      still = square.still_reciprocal;
       same_contact = square.same_contact;
       either_order = square.either_order;
     }

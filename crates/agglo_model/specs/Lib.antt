@@ -8,6 +8,7 @@ pub mod Contacts
 pub mod Greedy
 pub mod MeanLaws
 pub mod VolumeFile
+pub mod Generated
 pub mod LabelFile
 pub mod MergeTree
 pub mod TreeFile
@@ -36,3 +37,4 @@ pub mod Joining
 pub mod JoiningLaws
 pub mod TreeExamples
 pub mod TreeLaws
+pub mod VolumeLaws

@@ -1,6 +1,6 @@
 -- Why work on chunks gives the answer of the whole volume: what holds of connected labels, of frozen names,
 -- and of the works of all nodes.
-use Rattle.std.specs.Prelude.{◌≡◌, ◌≢◌, ℕ, ◌<◌, ◌≤◌, ◌↔◌, true, IsTrue, List, length, Some, Contains}
+use Rattle.std.specs.Prelude.{◌≡◌, ◌≢◌, ℕ, ◌<◌, ◌≤◌, ◌⊎◌, ◌↔◌, true, IsTrue, List, length, Some, Contains}
 use Rattle.agglo_model.specs.Axes.{voxel_count}
 use Rattle.agglo_model.specs.Cell.{IsInBox}
 use Rattle.agglo_model.specs.Grid.{Grid}
@@ -12,7 +12,7 @@ use Rattle.agglo_model.specs.MergeLaws.{SameOutcome}
 use Rattle.agglo_model.specs.Connected.{AreConnected}
 use Rattle.agglo_model.specs.Cutting.{Chunking, IsChunking, node_count, cells_at, parent, low_corner, high_corner}
 use Rattle.agglo_model.specs.Freezing.{is_held, is_inside, occurs_in, IsFrozen}
-use Rattle.agglo_model.specs.Work.{IsFree, IsWork, IsOrderedWork, AreFirstWorks, work_of, labels_before, labels_after, IsPassed, IsFirstPartner, all_merges}
+use Rattle.agglo_model.specs.Work.{IsFree, IsReciprocal, IsWork, IsOrderedWork, AreFirstWorks, work_of, labels_before, labels_within, labels_after, IsPassed, IsFirstPartner, all_merges}
 
 -- the cell of a node, as a box
 abbrev pub CellsAreBoxes : Type 0
@@ -36,6 +36,19 @@ pub record LiesInside (g : Grid) (c : Chunking) (m : ℕ) (labels : List ℕ) (x
 abbrev pub FreeNamesLieInside : Type 0
 FreeNamesLieInside = (g : Grid) (c : Chunking) (m : ℕ) (labels : List ℕ) (x : ℕ) → IsChunking c → c.axes ≡ g.axes
     → m < node_count c → AreConnected g.axes labels → x ≢ 0 → IsFree c m labels x → LiesInside g c m labels x
+
+-- Two reciprocal pairs of a node share no name. After the merge of a and b the pair of d and e is still a
+-- reciprocal pair of the node, with the same contact, and the two merges give the same labels in either order.
+pub record IsNodeDiamond (g : Grid) (t : Threshold) (c : Chunking) (m : ℕ) (labels : List ℕ) (a b d e : ℕ) : Type 0 where
+  pub apart : (d ≢ a) × (d ≢ b) × (e ≢ a) × (e ≢ b)
+  pub still_reciprocal : IsReciprocal g t c m (renamed labels a b) d e
+  pub same_contact : between g (renamed labels a b) d e ≡ between g labels d e
+  pub either_order : renamed (renamed labels a b) d e ≡ renamed (renamed labels d e) a b
+
+abbrev pub NodeDiamond : Type 0
+NodeDiamond = (g : Grid) (t : Threshold) (c : Chunking) (m : ℕ) (labels : List ℕ) (a b d e : ℕ)
+    → IsReciprocal g t c m labels a b → IsReciprocal g t c m labels d e → (d ≢ a) ⊎ (e ≢ b)
+    → IsNodeDiamond g t c m labels a b d e
 
 -- works of a node in whatever order give the same labels, by the same merges in some order
 abbrev pub WorksAgree : Type 0
@@ -72,12 +85,13 @@ LeavesStartFresh = (g : Grid) (t : Threshold) (c : Chunking) (labels : List ℕ)
     → AreWorksOn g t c labels works → (m : ℕ) → m ≤ length works → m < cells_at c 0
     → (v : ℕ) → is_held c m v ≡ true → label_of (labels_before labels works m) v ≡ label_of labels v
 
--- a name of a cell that isn't passed is in no later merge, and never the first partner in a pair that reaches
+-- a name of a cell that isn't passed is in no later merge, and none of the two of a first pair that reaches,
+-- whether before a later work or between its merges
 pub record IsDropped (g : Grid) (t : Threshold) (labels : List ℕ) (works : List (List Merge)) (m x : ℕ) : Type 0 where
   pub in_no_merge : (n : ℕ) (merge : Merge) → m < n → Contains (work_of works n) merge
       → (merge.survivor ≢ x) × (merge.absorbed ≢ x)
-  pub in_no_pair : (n y z : ℕ) → m < n → IsFirstPartner g (labels_before labels works n) y z
-      → Reaches t (between g (labels_before labels works n) y z) → (y ≢ x) × (z ≢ x)
+  pub in_no_pair : (n k y z : ℕ) → m < n → IsFirstPartner g (labels_within labels works n k) y z
+      → Reaches t (between g (labels_within labels works n k) y z) → (y ≢ x) × (z ≢ x)
 
 abbrev pub DroppedNamesStay : Type 0
 DroppedNamesStay = (g : Grid) (t : Threshold) (c : Chunking) (labels : List ℕ) (works : List (List Merge))

@@ -12,3 +12,7 @@ abbrev pub basins_note : List ℕ → List ℕ
 basins_note labels = line (codes "voxels") (length labels)
     ++ line (codes "foreground") (foreground labels)
     ++ line (codes "basins") (length (names labels))
+
+-- what `make` prints for a volume of so many voxels
+abbrev pub make_note : ℕ → List ℕ
+make_note voxels = line (codes "voxels") voxels

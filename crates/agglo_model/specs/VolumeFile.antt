@@ -1,8 +1,9 @@
 -- The bytes of a volume file, version 1, and what is wrong with other bytes.
-use Rattle.std.specs.Prelude.{ℕ, ◌+◌, ◌*◌, ◌==◌, nat_lt, nat_eq, if◌then◌else◌, List, length, take, drop, slice_index, sum, Option, Some, None, codes}
+use Rattle.std.specs.Prelude.{ℕ, ◌+◌, ◌*◌, ◌==◌, nat_lt, nat_eq, if◌then◌else◌, List, ◌++◌, length, take, drop, replicate, slice_index, sum, Option, Some, None, codes}
 use Rattle.std.specs.List.{starts_with}
 use Rattle.agglo_model.specs.Axes.{Axes, AxesFlaw, axes_flaw, edge_count}
 use Rattle.agglo_model.specs.Grid.{Grid}
+use Rattle.agglo_model.specs.LabelFile.{axes_bytes, u32_bytes}
 
 -- the text that a volume file begins with
 abbrev pub volume_magic : List ℕ
@@ -79,3 +80,11 @@ volume_flaw bytes = first_of_two (header_flaw bytes) (body_flaw (header_axes byt
 -- the volume that a list of bytes without a flaw holds
 abbrev pub volume_in : List ℕ → Grid
 volume_in bytes = record { axes = header_axes bytes; bytes = body bytes }
+
+-- the file of a volume: the text, the axes, three channels, eight bytes of zero, then one byte for each edge
+-- number
+abbrev pub volume_header : Axes → List ℕ
+volume_header axes = volume_magic ++ axes_bytes axes ++ u32_bytes 3 ++ replicate 8 0
+
+abbrev pub volume_bytes : Grid → List ℕ
+volume_bytes volume = volume_header volume.axes ++ volume.bytes

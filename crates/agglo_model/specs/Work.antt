@@ -53,7 +53,7 @@ AreWorksFrom g t c m labels (work ∷ works) =
 abbrev pub all_merges : List (List Merge) → List Merge
 all_merges works = flat_map (λ work. work) works
 
--- the work of node m, and the labels before and after it
+-- the work of node m, the labels before and after it, and those after its first k merges
 abbrev pub work_of : List (List Merge) → ℕ → List Merge
 work_of works m = slice_index_or works m []
 
@@ -62,6 +62,9 @@ labels_before labels works m = after_merges labels (all_merges (take m works))
 
 abbrev pub labels_after : List ℕ → List (List Merge) → ℕ → List ℕ
 labels_after labels works m = labels_before labels works (m + 1)
+
+abbrev pub labels_within : List ℕ → List (List Merge) → ℕ → ℕ → List ℕ
+labels_within labels works m k = after_merges (labels_before labels works m) (take k (work_of works m))
 
 -- the works of the first nodes in ascending number, from these labels on, as far as they were done
 pub record AreFirstWorks (g : Grid) (t : Threshold) (c : Chunking) (labels : List ℕ) (works : List (List Merge)) : Type 0 where

@@ -3,10 +3,11 @@ ghost use Rattle.std.specs.Prelude.{◌≡◌, ℕ, ◌++◌, ◌∷◌, List, [
 ghost use Rattle.agglo_model.specs.Axes.{AxisLarge, AxisZero, TooMany, axes_flaw, higher_end, is_edge, lower_end};
 ghost use Rattle.agglo_model.specs.Basins.{AreBasins, BackgroundIsUnlabelled, LabelsAgreeAlong, RootsNameBasins};
 ghost use Rattle.agglo_model.specs.EdgeOrder.{EdgeBefore};
+ghost use Rattle.agglo_model.specs.Generated.{generated_volume};
 ghost use Rattle.agglo_model.specs.Examples.{box, file_with, labels_by_higher, labels_of_halves, labels_on_background, plateau, three_basins, two_arms, two_basins, two_basins_file, zeros};
 ghost use Rattle.agglo_model.specs.LabelFile.{label_file};
 ghost use Rattle.agglo_model.specs.Note.{basins_note};
-ghost use Rattle.agglo_model.specs.VolumeFile.{BadAxes, Channels, Magic, Reserved, ShortHeader, Trailing, Truncated, volume_flaw, volume_in};
+ghost use Rattle.agglo_model.specs.VolumeFile.{BadAxes, Channels, Magic, Reserved, ShortHeader, Trailing, Truncated, volume_bytes, volume_flaw, volume_in};
 
 /// Two pairs of voxels, each with a strong edge: two basins, named by their first voxels.
 pub fn basins_of_two_pairs()
@@ -132,4 +133,18 @@ pub fn flaws_of_axes()
 pub fn flaws_of_bodies()
     ensures short { volume_flaw (take 43 two_basins_file) ≡ Some (Truncated 11) }
     ensures long { volume_flaw (two_basins_file ++ 0 ∷ []) ≡ Some Trailing }
+{}
+
+/// The file of that volume holds it.
+pub fn file_of_a_volume()
+    ensures { volume_bytes two_basins ≡ two_basins_file }
+{}
+
+/// Nine bytes from the number 0, and the first three from 7.
+pub fn generated_bytes()
+    ensures zero { generated_volume 0 (record { nx = 3; ny = 1; nz = 1 }) ≡ record {
+      axes = record { nx = 3; ny = 1; nz = 1 };
+      bytes = 60 ∷ 71 ∷ 209 ∷ 170 ∷ 98 ∷ 159 ∷ 87 ∷ 163 ∷ 129 ∷ [];
+    } }
+    ensures seven { (generated_volume 7 (record { nx = 1; ny = 1; nz = 1 })).bytes ≡ 61 ∷ 233 ∷ 156 ∷ [] }
 {}

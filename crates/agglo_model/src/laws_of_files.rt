@@ -1,5 +1,6 @@
 //! Laws over the bytes of files, each a function that does nothing and whose contract is the law.
 ghost use Rattle.agglo_model.specs.Numbers.{BytesWriteBack, NumbersReadBack};
+ghost use Rattle.agglo_model.specs.VolumeLaws.{VolumesReadBack};
 
 /// A number reads back from the bytes that it is written as, four or eight of them.
 pub fn numbers_read_back()
@@ -9,4 +10,10 @@ pub fn numbers_read_back()
 /// Four or eight bytes are written back from the number that they read as.
 pub fn bytes_write_back()
     ensures { BytesWriteBack }
+{}
+
+/// The file of a whole volume has no flaw, and holds that volume.
+#[tactic(auto, using(crate::proofs::VolumesBack::volumes_read_back))]
+pub fn volumes_read_back()
+    ensures { VolumesReadBack }
 {}

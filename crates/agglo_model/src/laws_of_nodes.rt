@@ -1,7 +1,7 @@
 //! Why work on chunks gives the answer of the whole volume. Each function has no body: its contract
 //! is the law, over the definitions alone.
 
-ghost use Rattle.agglo_model.specs.NodeLaws.{BasinsAreConnected, CellsAreBoxes, CellsWait, DroppedNamesStay, FreeNamesLieInside, FrozenNamesAreWhole, LeavesStartFresh, MergesKeepConnected, OrderedWorkIsWork, WorksAgree, WorksAreRun};
+ghost use Rattle.agglo_model.specs.NodeLaws.{BasinsAreConnected, CellsAreBoxes, CellsWait, DroppedNamesStay, FreeNamesLieInside, FrozenNamesAreWhole, LeavesStartFresh, MergesKeepConnected, NodeDiamond, OrderedWorkIsWork, WorksAgree, WorksAreRun};
 
 /// Any two voxels of a basin are joined by a path of edges inside the basin.
 pub fn basins_are_connected()
@@ -26,6 +26,12 @@ pub fn cells_are_boxes()
 #[tactic(auto, using(crate::proofs::FreeNames::free_names_lie_inside))]
 pub fn free_names_lie_inside()
     ensures { FreeNamesLieInside }
+{}
+
+/// Two reciprocal pairs of a node have no name in common, so merging one of them leaves the other reciprocal
+/// in the node, with the contact that it had, and the labels do not tell which of the two was merged first.
+pub fn reciprocal_merges_of_a_node_commute()
+    ensures { NodeDiamond }
 {}
 
 /// Merging the reciprocal pairs of a node in whatever order, until none is left, ends in the same
@@ -59,7 +65,7 @@ pub fn frozen_names_are_whole()
 {}
 
 /// A name of a cell that a node doesn't pass to its parent is in no later merge, and is never one of the
-/// two of a first pair that reaches the threshold.
+/// two of a first pair that reaches the threshold, before a later work or between two merges of it.
 #[tactic(auto, using(crate::proofs::DroppedNames::dropped_names_stay))]
 pub fn dropped_names_stay()
     ensures { DroppedNamesStay }
