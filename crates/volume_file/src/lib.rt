@@ -6,12 +6,16 @@
 
 mod body;
 mod fault;
+mod generating;
 mod reading;
 #[cfg(test)]
 mod tests;
 mod volume;
+mod writing;
 
 pub use body::read_body;
 pub use fault::VolumeFault;
+pub use generating::generate;
 pub use reading::{read_head, read_volume};
 pub use volume::{Head, Volume};
+pub use writing::write_volume;

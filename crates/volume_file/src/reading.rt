@@ -14,13 +14,13 @@ use seg_io::{Desk, fill};
 use std::alloc::Global;
 
 /// The text that a volume file begins with.
-const MAGIC: &[u8] = b"AFFVOL01";
+pub(crate) const MAGIC: &[u8] = b"AFFVOL01";
 
 /// How many bytes a header has.
-const HEADER_LENGTH: usize = 32;
+pub(crate) const HEADER_LENGTH: usize = 32;
 
 /// How many affinities each voxel has.
-const CHANNELS: u32 = 3;
+pub(crate) const CHANNELS: u32 = 3;
 
 /// Reads the header of a volume file, and nothing after it. It takes no memory.
 ///

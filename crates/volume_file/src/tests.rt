@@ -1,6 +1,7 @@
-use crate::{Volume, VolumeFault, read_volume};
+use crate::{Volume, VolumeFault, generate, read_volume, write_volume};
 use agglo_model::Memory;
-use seg_io::{CallKind, Desk, Failed, MemoryDesk};
+use seg_base::{DimFault, Dims};
+use seg_io::{CallKind, Desk, Failed, MemoryDesk, Port};
 use std::alloc::{AllocError, Global};
 
 /// Why a test could not be run.
@@ -9,6 +10,7 @@ enum Trouble {
     Memory,
     Input,
     Volume(VolumeFault),
+    Dims(DimFault),
 }
 
 impl From<AllocError> for Trouble {
@@ -26,6 +28,12 @@ impl From<Memory> for Trouble {
 impl From<Failed> for Trouble {
     fn from(_failed: Failed) -> Trouble {
         Trouble::Input
+    }
+}
+
+impl From<DimFault> for Trouble {
+    fn from(fault: DimFault) -> Trouble {
+        Trouble::Dims(fault)
     }
 }
 
@@ -170,5 +178,27 @@ fn a_read_that_fails_is_told(rt: HostRuntime) -> Result<(), Trouble> {
     let (fault, left) = read_with_a_fault(rt.alloc(), &file)?;
     assert_eq!(rt; fault, Some(VolumeFault::Read));
     assert_eq!(rt; left, 12, "the header was read, in five pieces");
+    Ok(())
+}
+
+/// The file of a generated volume of these axes.
+fn generated_file(alloc: Global, start: u32, axes: [u32; 3]) -> Result<Vec<u8>, Trouble> {
+    let mut desk = MemoryDesk::new(alloc, 1000)?;
+    desk.open_out(Port::Volume, "v")?;
+    let [nx, ny, nz] = axes;
+    let volume = generate(alloc, start, &Dims::new(nx, ny, nz)?)?;
+    write_volume(&mut desk, Port::Volume, &volume)?;
+    Ok(desk.written(Port::Volume).to_vec(alloc)?)
+}
+
+#[test]
+fn a_generated_volume_is_written(rt: HostRuntime) -> Result<(), Trouble> {
+    let body = [60, 71, 209, 170, 98, 159, 87, 163, 129];
+    let file = generated_file(rt.alloc(), 0, [3, 1, 1])?;
+    assert!(rt; file == file_of(rt.alloc(), [3, 1, 1], 3, &body)?);
+    let file = generated_file(rt.alloc(), 7, [5, 5, 5])?;
+    assert_eq!(rt; file.len(), 32 + 375);
+    assert_eq!(rt; file[32], 61);
+    assert_eq!(rt; file[406], 87);
     Ok(())
 }
