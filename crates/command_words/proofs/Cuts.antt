@@ -1,8 +1,10 @@
 -- A text is cut at its first separator in one way, so fractions and sizes have their parts in one way.
-use Rattle.std.proofs.Common.{◌≡◌, ◌≢◌, ℕ, suc, List, [], ◌∷◌, ◌++◌, get_or, All, refl, sym, ap, ◌∙◌, subst, append_assoc, arith}
+use Rattle.std.proofs.Common.{◌≡◌, ◌≢◌, ℕ, suc, List, [], ◌∷◌, ◌++◌, get_or, All, Some, None, refl, sym, ap, ◌∙◌, subst, append_assoc, arith}
 use Rattle.std.specs.Char.{IsAsciiDigit}
+use Rattle.agglo_model.specs.Axes.{Axes, AxesFlaw, axes_flaw}
+use Rattle.agglo_model.proofs.AxesLimits.{no_flaw}
 use Rattle.agglo_model.specs.PairOrder.{Threshold}
-use Rattle.command_words.specs.Words.{IsNumber, IsFraction, AreSizes, digits_number}
+use Rattle.command_words.specs.Words.{IsNumber, IsFraction, AreSizes, SpellsAxes, digits_number}
 use Rattle.command_words.specs.Parts.{IsWithout}
 
 -- a text of digits is without any other byte
@@ -131,3 +133,20 @@ sizes_once word sizes others s t =
     s.sizes_are
     ∙ (λ i. digits_number (sym same.at_x i) ∷ digits_number (sym same.at_y i) ∷ digits_number (sym same.at_z i) ∷ [])
     ∙ sym t.sizes_are
+
+pub no_axes : (word sizes : List ℕ) (flaw : AxesFlaw) → AreSizes word sizes
+    → axes_flaw (record { nx = get_or sizes 0 0; ny = get_or sizes 1 0; nz = get_or sizes 2 0 }) ≡ Some flaw
+    → (axes : Axes) → ¬ (SpellsAxes word axes)
+no_axes word sizes flaw are bad axes s =
+    let same = sizes_once word (axes.nx ∷ axes.ny ∷ axes.nz ∷ []) sizes s.sizes are in
+    let good : None ≡ Some flaw = sym (no_flaw axes s.limits)
+    ∙ ap (λ l. axes_flaw (record { nx = get_or l 0 0; ny = get_or l 1 0; nz = get_or l 2 0 })) same ∙ bad in
+    cc good
+
+pub axes_once : (word : List ℕ) (a b : Axes) → SpellsAxes word a → SpellsAxes word b → a ≡ b
+axes_once word a b s t =
+    let same = sizes_once word (a.nx ∷ a.ny ∷ a.nz ∷ []) (b.nx ∷ b.ny ∷ b.nz ∷ []) s.sizes t.sizes in
+    let x : a.nx ≡ b.nx = cc same in
+    let y : a.ny ≡ b.ny = cc same in
+    let z : a.nz ≡ b.nz = cc same in
+    λ i. record { nx = x i; ny = y i; nz = z i }

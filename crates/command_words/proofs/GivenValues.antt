@@ -3,8 +3,9 @@ use Rattle.std.proofs.Common.{◌≡◌, ◌≢◌, inl, inr, ℕ, ◌<◌, List
 use denote.Ref.{Bor}
 use Rattle.std.proofs.lemmas.Bool.{cases_order}
 use Rattle.std.proofs.lemmas.List.{get_or_default}
+use Rattle.agglo_model.specs.Axes.{Axes}
 use Rattle.agglo_model.specs.PairOrder.{Threshold}
-use Rattle.command_words.specs.Words.{Given, HasValue, HasName, HasNumber, HasFraction, HasSizes, IsName, IsNumber, IsFraction, AreSizes, digits_number}
+use Rattle.command_words.specs.Words.{Given, HasValue, HasName, HasNumber, HasFraction, HasSizes, HasAxes, IsName, IsNumber, IsFraction, AreSizes, SpellsAxes, digits_number}
 use Rattle.command_words.specs.declared.options.OptionName.{OptionName}
 use Rattle.command_words.specs.Slots.{spelled, slot_of, IsMissing, IsSlot, AreKnownOnce, AreSlots}
 
@@ -91,4 +92,16 @@ sizes_outcome (Some sizes) given n values value slots is good = record {
   word = value.now;
   given = slot_some given n values value slots is;
   sizes_are = good;
+}
+
+pub axes_outcome : (r : Option Axes) (given : List Given) (n : OptionName) (values : List (Option (Bor (List ℕ)))) (value : Bor (List ℕ))
+    → AreSlots given values → slot_of values n ≡ Some value
+    → MatchOption r ((axes : Axes) → ¬ (SpellsAxes value.now axes)) (λ axes. SpellsAxes value.now axes)
+    → MatchOption r ((axes : Axes) → ¬ (HasAxes given (spelled n) axes)) (λ axes. HasAxes given (spelled n) axes)
+axes_outcome None given n values value slots is bad = λ axes has.
+    bad axes (subst (λ w. SpellsAxes w axes) (slot_word given n values value has.word slots is has.given) has.axes_are)
+axes_outcome (Some axes) given n values value slots is good = record {
+  word = value.now;
+  given = slot_some given n values value slots is;
+  axes_are = good;
 }

@@ -14,15 +14,17 @@ dashed text = 45 ∷ 45 ∷ text
 -- ---- names of options have no `=`
 
 pub name_cases : (P : List ℕ → Type 0) → P (codes "volume") → P (codes "labels") → P (codes "tree") → P (codes "low")
-    → P (codes "merge") → P (codes "chunk") → P (codes "workers") → (name : List ℕ) → Contains option_names name → P name
-name_cases P a b c d e f g name (zero, lt, is) = subst P is a
-name_cases P a b c d e f g name (suc zero, lt, is) = subst P is b
-name_cases P a b c d e f g name (suc (suc zero), lt, is) = subst P is c
-name_cases P a b c d e f g name (suc (suc (suc zero)), lt, is) = subst P is d
-name_cases P a b c d e f g name (suc (suc (suc (suc zero))), lt, is) = subst P is e
-name_cases P a b c d e f g name (suc (suc (suc (suc (suc zero)))), lt, is) = subst P is f
-name_cases P a b c d e f g name (suc (suc (suc (suc (suc (suc zero))))), lt, is) = subst P is g
-name_cases P a b c d e f g name (suc (suc (suc (suc (suc (suc (suc k)))))), lt, is) = absurd (omega arith)
+    → P (codes "merge") → P (codes "chunk") → P (codes "workers") → P (codes "start") → P (codes "dims") → (name : List ℕ) → Contains option_names name → P name
+name_cases P a b c d e f g h j name (zero, lt, is) = subst P is a
+name_cases P a b c d e f g h j name (suc zero, lt, is) = subst P is b
+name_cases P a b c d e f g h j name (suc (suc zero), lt, is) = subst P is c
+name_cases P a b c d e f g h j name (suc (suc (suc zero)), lt, is) = subst P is d
+name_cases P a b c d e f g h j name (suc (suc (suc (suc zero))), lt, is) = subst P is e
+name_cases P a b c d e f g h j name (suc (suc (suc (suc (suc zero)))), lt, is) = subst P is f
+name_cases P a b c d e f g h j name (suc (suc (suc (suc (suc (suc zero))))), lt, is) = subst P is g
+name_cases P a b c d e f g h j name (suc (suc (suc (suc (suc (suc (suc zero)))))), lt, is) = subst P is h
+name_cases P a b c d e f g h j name (suc (suc (suc (suc (suc (suc (suc (suc zero))))))), lt, is) = subst P is j
+name_cases P a b c d e f g h j name (suc (suc (suc (suc (suc (suc (suc (suc (suc k)))))))), lt, is) = absurd (omega arith)
 
 -- a test of the same
 pub without_by_test : (c : ℕ) (xs : List ℕ) → list_any (λ b. eqb b c) xs ≡ false → IsWithout c xs
@@ -40,6 +42,8 @@ known_without name known = name_cases (IsWithout 61)
     (without_by_test 61 (codes "merge") refl)
     (without_by_test 61 (codes "chunk") refl)
     (without_by_test 61 (codes "workers") refl)
+    (without_by_test 61 (codes "start") refl)
+    (without_by_test 61 (codes "dims") refl)
     name known
 
 -- ---- one option

@@ -1,13 +1,14 @@
 -- Words spell one task at most.
-use Rattle.std.proofs.Common.{◌≡◌, ℕ, zero, suc, ◌<◌, ◌≤◌, List, [], ◌∷◌, All, arith, refl, sym, ap, ◌∙◌, subst}
+use Rattle.std.proofs.Common.{◌≡◌, ℕ, List, ◌∷◌, refl, sym, ap, ◌∙◌, subst}
 use Rattle.std.specs.List.{flat_map}
+use Rattle.agglo_model.specs.Axes.{Axes}
 use Rattle.agglo_model.specs.PairOrder.{Threshold}
-use Rattle.command_words.specs.Words.{Given, given_words, HasValue, HasName, HasNumber, HasFraction, HasSizes, IsFraction, AreSizes, AreSomeSizes, digits_number, BasinsSettings, SegmentSettings, GivesBasins, GivesSegment, Task, Basins, Segment, Show, command_of, Gives, Spells}
+use Rattle.command_words.specs.Words.{Given, given_words, HasValue, HasName, HasNumber, HasFraction, HasSizes, HasAxes, IsFraction, AreSizes, SpellsAxes, AreSomeSizes, SizesAreSome, digits_number, BasinsSettings, SegmentSettings, MakeSettings, TrialSettings, GivesBasins, GivesSegment, GivesMake, GivesTrial, Task, Basins, Segment, Make, Trial, Show, command_of, Gives, Spells}
 use Rattle.command_words.specs.Slots.{AreKnownOnce}
-use Rattle.command_words.proofs.Cuts.{fraction_once, sizes_once}
+use Rattle.command_words.proofs.Cuts.{fraction_once, sizes_once, axes_once}
 use Rattle.command_words.proofs.GivenValues.{same_value}
 use Rattle.command_words.proofs.OneReading.{SamePairs, one_reading, given_there}
-use Rattle.command_words.proofs.WholeWords.{gives_known, head_is, tail_is}
+use Rattle.command_words.proofs.WholeWords.{apart, gives_known, head_is, tail_is}
 
 -- two readings of the same options
 record AreSame (given options : List Given) : Type 0 where
@@ -39,6 +40,12 @@ sizes_same given options same name a b h k =
     sizes_once k.word a b
     (subst (λ (w : List ℕ). AreSizes w a) (word_same given options same name h.word k.word h.given k.given) h.sizes_are) k.sizes_are
 
+axes_same : (given options : List Given) → AreSame given options → (name : List ℕ) (a b : Axes)
+    → HasAxes given name a → HasAxes options name b → a ≡ b
+axes_same given options same name a b h k =
+    axes_once k.word a b
+    (subst (λ (w : List ℕ). SpellsAxes w a) (word_same given options same name h.word k.word h.given k.given) h.axes_are) k.axes_are
+
 basins_same : (given options : List Given) → AreSame given options → (s t : BasinsSettings) → GivesBasins given s
     → GivesBasins options t → s ≡ t
 basins_same given options same s t h k =
@@ -67,17 +74,40 @@ segment_same given options same s t h k =
       workers = workers i;
     }
 
+make_same : (given options : List Given) → AreSame given options → (s t : MakeSettings) → GivesMake given s
+    → GivesMake options t → s ≡ t
+make_same given options same s t h k =
+    let volume = name_same given options same _ s.volume t.volume h.volume k.volume in
+    let start = number_same given options same _ _ _ s.start t.start h.start k.start in
+    let axes = axes_same given options same _ s.axes t.axes h.dims k.dims in
+    λ i. record { volume = volume i; start = start i; axes = axes i }
+
+trial_same : (given options : List Given) → AreSame given options → (s t : TrialSettings) → GivesTrial given s
+    → GivesTrial options t → s ≡ t
+trial_same given options same s t h k =
+    let start = number_same given options same _ _ _ s.start t.start h.start k.start in
+    let axes = axes_same given options same _ s.axes t.axes h.dims k.dims in
+    let low = number_same given options same _ _ _ s.low t.low h.low k.low in
+    let threshold = fraction_same given options same _ s.threshold t.threshold h.merge k.merge in
+    let chunk = sizes_same given options same _ s.chunk t.chunk h.chunk k.chunk in
+    let workers = number_same given options same _ _ _ s.workers t.workers h.workers k.workers in
+    λ i. record {
+      start = start i;
+      axes = axes i;
+      low = low i;
+      threshold = threshold i;
+      chunk = chunk i;
+      workers = workers i;
+    }
+
 tasks_same : (given options : List Given) → AreSame given options → (a b : Task) → command_of a ≡ command_of b
     → Gives given a → Gives options b → a ≡ b
 tasks_same given options same (Basins s) (Basins t) e h k = ap Basins (basins_same given options same s t h k)
 tasks_same given options same (Segment s) (Segment t) e h k = ap Segment (segment_same given options same s t h k)
+tasks_same given options same (Make s) (Make t) e h k = ap Make (make_same given options same s t h k)
+tasks_same given options same (Trial s) (Trial t) e h k = ap Trial (trial_same given options same s t h k)
 tasks_same given options same (Show s) (Show t) e h k = ap Show (name_same given options same _ s t h.tree_name k.tree_name)
-tasks_same given options same (Basins s) (Segment t) e h k = cc e
-tasks_same given options same (Basins s) (Show t) e h k = cc e
-tasks_same given options same (Segment s) (Basins t) e h k = cc e
-tasks_same given options same (Segment s) (Show t) e h k = cc e
-tasks_same given options same (Show s) (Basins t) e h k = cc e
-tasks_same given options same (Show s) (Segment t) e h k = cc e
+tasks_same given options same a b e h k = absurd (apart (command_of a) (command_of b) refl e)
 
 pub one_task : (words : List (List ℕ)) (a b : Task) → Spells words a → Spells words b → a ≡ b
 one_task words a b s t =
@@ -92,9 +122,12 @@ one_task words a b s t =
     tasks_same s.options t.options same a b
     (head_is (command_of a) (command_of b) (flat_map given_words s.options) (flat_map given_words t.options) both) s.gives t.gives
 
-pub sizes_some : (words : List (List ℕ)) (settings : SegmentSettings) → Spells words (Segment settings)
-    → AreSomeSizes settings.chunk
-sizes_some words settings s =
-    let a = s.gives.chunk.sizes_are in
-    subst AreSomeSizes (sym a.sizes_are)
+sizes_some : (word sizes : List ℕ) → AreSizes word sizes → AreSomeSizes sizes
+sizes_some word sizes a = subst AreSomeSizes (sym a.sizes_are)
     (record { x = a.x_number.high_enough; y = a.y_number.high_enough; z = a.z_number.high_enough })
+
+pub sizes_are_some : SizesAreSome
+sizes_are_some = record {
+  of_segment = λ words settings s. sizes_some s.gives.chunk.word settings.chunk s.gives.chunk.sizes_are;
+  of_trial = λ words settings s. sizes_some s.gives.chunk.word settings.chunk s.gives.chunk.sizes_are;
+}

@@ -7,7 +7,7 @@ use Rattle.std.proofs.lemmas.Bool.{cases_eq}
 use Rattle.std.proofs.lemmas.List.{get_or-set_same, get_or-set_other, length-set}
 use Rattle.command_words.specs.Words.{Given, HasValue}
 use Rattle.command_words.specs.declared.options.OptionName.{OptionName}
-use Rattle.command_words.specs.declared.options.OptionName.TheVariants.{Volume, Labels, Tree, Low, Merge, Chunk, Workers}
+use Rattle.command_words.specs.declared.options.OptionName.TheVariants.{Volume, Labels, Tree, Low, Merge, Chunk, Workers, Start, Dims}
 use Rattle.command_words.specs.Slots.{option_names, spelled, place, slot_of, IsMissing, AreKnownOnce, IsSlot, AreSlots}
 
 -- ---- membership by induction
@@ -65,6 +65,8 @@ name_at_place Low = refl
 name_at_place Merge = refl
 name_at_place Chunk = refl
 name_at_place Workers = refl
+name_at_place Start = refl
+name_at_place Dims = refl
 
 pub spelled_known : (n : OptionName) → Contains option_names (spelled n)
 spelled_known Volume = (0, omega arith, refl)
@@ -74,8 +76,10 @@ spelled_known Low = (3, omega arith, refl)
 spelled_known Merge = (4, omega arith, refl)
 spelled_known Chunk = (5, omega arith, refl)
 spelled_known Workers = (6, omega arith, refl)
+spelled_known Start = (7, omega arith, refl)
+spelled_known Dims = (8, omega arith, refl)
 
-place_lt : (n : OptionName) → place n < 7
+place_lt : (n : OptionName) → place n < 9
 place_lt Volume = omega arith
 place_lt Labels = omega arith
 place_lt Tree = omega arith
@@ -83,6 +87,8 @@ place_lt Low = omega arith
 place_lt Merge = omega arith
 place_lt Chunk = omega arith
 place_lt Workers = omega arith
+place_lt Start = omega arith
+place_lt Dims = omega arith
 
 -- the place of a name
 place_of : List ℕ → ℕ
@@ -97,11 +103,13 @@ place_of-spelled Low = refl
 place_of-spelled Merge = refl
 place_of-spelled Chunk = refl
 place_of-spelled Workers = refl
+place_of-spelled Start = refl
+place_of-spelled Dims = refl
 
 pub same_place : (n m : OptionName) → spelled n ≡ spelled m → place n ≡ place m
 same_place n m e = sym (place_of-spelled n) ∙ ap place_of e ∙ place_of-spelled m
 
-same_spelled : (n m : OptionName) → place n ≡ place m → spelled n ≡ spelled m
+pub same_spelled : (n m : OptionName) → place n ≡ place m → spelled n ≡ spelled m
 same_spelled n m e = sym (name_at_place n) ∙ ap (λ k. get_or option_names k []) e ∙ name_at_place m
 
 -- ---- one more option
@@ -133,14 +141,14 @@ pub slots_push : (given : List Given) (o : Given) (n : OptionName) (values : Lis
 slots_push given o n values value named valued was none =
     let missing : IsMissing given o.name = subst (IsMissing given) (sym named)
     (missing_from_none given (spelled n) (slot_of values n) none (was.slots n)) in
-    let len : length values ≡ 7 = was.seven in
+    let len : length values ≡ 9 = was.nine in
     record {
-      seven = length-set values (place n) (Some value) ∙ len;
+      nine = length-set values (place n) (Some value) ∙ len;
       known_once = known_push given o was.known_once (subst (Contains option_names) (sym named) (spelled_known n)) missing;
       slots = λ m. at m (cases_eq (place m) (place n));
     }
   where
-    here : (m : OptionName) → place m ≡ place n → length values ≡ 7 → IsSlot (given ++ o ∷ []) (spelled m) (slot_of (set values (place n) (Some value)) m)
+    here : (m : OptionName) → place m ≡ place n → length values ≡ 9 → IsSlot (given ++ o ∷ []) (spelled m) (slot_of (set values (place n) (Some value)) m)
     here m same len =
         let lt : place n < length values = omega (arith, place_lt n) in
         let read : slot_of (set values (place n) (Some value)) m ≡ Some value =
@@ -157,12 +165,12 @@ slots_push given o n values value named valued was none =
         (λ e. other (same_place m n (sym e ∙ named))) (was.slots m))
 
     at : (m : OptionName) → (place m ≡ place n) ⊎ (place m ≢ place n) → IsSlot (given ++ o ∷ []) (spelled m) (slot_of (set values (place n) (Some value)) m)
-    at m (inl same) = here m same was.seven
+    at m (inl same) = here m same was.nine
     at m (inr other) = there m other
 
 -- ---- nothing read
 
-all_none : (n : OptionName) → slot_of (None ∷ None ∷ None ∷ None ∷ None ∷ None ∷ None ∷ []) n ≡ None
+all_none : (n : OptionName) → slot_of (None ∷ None ∷ None ∷ None ∷ None ∷ None ∷ None ∷ None ∷ None ∷ []) n ≡ None
 all_none Volume = refl
 all_none Labels = refl
 all_none Tree = refl
@@ -170,10 +178,12 @@ all_none Low = refl
 all_none Merge = refl
 all_none Chunk = refl
 all_none Workers = refl
+all_none Start = refl
+all_none Dims = refl
 
-pub slots_none : AreSlots [] (None ∷ None ∷ None ∷ None ∷ None ∷ None ∷ None ∷ [])
+pub slots_none : AreSlots [] (None ∷ None ∷ None ∷ None ∷ None ∷ None ∷ None ∷ None ∷ None ∷ [])
 slots_none = record {
-  seven = refl;
+  nine = refl;
   known_once = record { known = λ k d lt. absurd (omega arith); once = λ i j d order lt. absurd (omega arith) };
   slots = λ n. subst (IsSlot [] (spelled n)) (sym (all_none n)) (λ k d lt. absurd (omega arith));
 }

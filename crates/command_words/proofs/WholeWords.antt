@@ -1,9 +1,11 @@
 -- Words and the job that they spell: what options say in one reading, they say in every other.
-use Rattle.std.proofs.Common.{◌≡◌, ◌≢◌, ℕ, zero, suc, List, [], ◌∷◌, get_or, All, Contains, codes, Option, Some, None, Result, Ok, Err, IsErrAnd, MatchResult, refl, sym, ◌∙◌, subst, arith}
+use Rattle.std.proofs.Common.{◌≡◌, ◌≢◌, ℕ, zero, suc, List, [], ◌∷◌, get_or, All, Contains, codes, Option, Some, None, Result, Ok, Err, IsErrAnd, MatchResult, false, true≢false, refl, sym, ◌∙◌, subst, arith}
 use Rattle.std.specs.List.{flat_map}
+use Rattle.std.specs.Str.{bytes_eq}
 use denote.Ref.{Bor}
 use Rattle.std.proofs.lemmas.List.{get_or_default}
-use Rattle.command_words.specs.Words.{Given, given_words, AreOptionsOf, Task, Basins, Segment, Show, command_of, Gives, GivesBasins, GivesSegment, GivesShow, BasinsSettings, SegmentSettings, segment_options, AreNoSettings}
+use Rattle.std.proofs.lemmas.Slice.Eq.{bytes_eq-Decides}
+use Rattle.command_words.specs.Words.{Given, given_words, AreOptionsOf, Task, Basins, Segment, Make, Trial, Show, command_of, Gives, GivesBasins, GivesSegment, GivesMake, GivesTrial, GivesShow, BasinsSettings, SegmentSettings, MakeSettings, TrialSettings, segment_options, trial_options, AreNoSettings}
 use Rattle.command_words.specs.declared.settings.SegmentValues.{SegmentValues}
 use Rattle.command_words.specs.declared.job.Job.{Job}
 use Rattle.command_words.specs.declared.job.WordsFault.{WordsFault}
@@ -32,6 +34,21 @@ segment_known (suc (suc (suc (suc (suc zero))))) d lt = (5, omega arith, refl)
 segment_known (suc (suc (suc (suc (suc (suc zero)))))) d lt = (6, omega arith, refl)
 segment_known (suc (suc (suc (suc (suc (suc (suc k))))))) d lt = absurd (omega arith)
 
+make_known : All (Contains option_names) (codes "volume" ∷ codes "start" ∷ codes "dims" ∷ [])
+make_known zero d lt = (0, omega arith, refl)
+make_known (suc zero) d lt = (7, omega arith, refl)
+make_known (suc (suc zero)) d lt = (8, omega arith, refl)
+make_known (suc (suc (suc k))) d lt = absurd (omega arith)
+
+trial_known : All (Contains option_names) trial_options
+trial_known zero d lt = (7, omega arith, refl)
+trial_known (suc zero) d lt = (8, omega arith, refl)
+trial_known (suc (suc zero)) d lt = (3, omega arith, refl)
+trial_known (suc (suc (suc zero))) d lt = (4, omega arith, refl)
+trial_known (suc (suc (suc (suc zero)))) d lt = (5, omega arith, refl)
+trial_known (suc (suc (suc (suc (suc zero))))) d lt = (6, omega arith, refl)
+trial_known (suc (suc (suc (suc (suc (suc k)))))) d lt = absurd (omega arith)
+
 show_known : All (Contains option_names) (codes "tree" ∷ [])
 show_known zero d lt = (2, omega arith, refl)
 show_known (suc k) d lt = absurd (omega arith)
@@ -45,6 +62,8 @@ known_from names given known are = record {
 pub gives_known : (given : List Given) (task : Task) → Gives given task → AreKnownOnce given
 gives_known given (Basins settings) gives = known_from _ given basins_known gives.options_are
 gives_known given (Segment settings) gives = known_from _ given segment_known gives.options_are
+gives_known given (Make settings) gives = known_from _ given make_known gives.options_are
+gives_known given (Trial settings) gives = known_from _ given trial_known gives.options_are
 gives_known given (Show tree) gives = known_from _ given show_known gives.options_are
 
 -- ---- the values in one reading are those in another
@@ -61,7 +80,7 @@ slot_same given options name (Some value) same (o, there, named, valued) =
 slots_same : (given options : List Given) (values : List (Option (Bor (List ℕ)))) → SamePairs given options → AreKnownOnce options
     → AreSlots given values → AreSlots options values
 slots_same given options values same known slots = record {
-  seven = slots.seven;
+  nine = slots.nine;
   known_once = known;
   slots = λ n. slot_same given options (spelled n) (slot_of values n) same (slots.slots n);
 }
@@ -122,24 +141,35 @@ pub memory_outcome : (r : Result Job WordsFault) (command : List ℕ) (given : L
 memory_outcome (Ok job) command given no_error task asked = absurd no_error
 memory_outcome (Err fault) command given is task asked = subst (RefusesOptions command given) (sym is) (task, asked)
 
+-- a test tells texts apart
+pub apart : (a b : List ℕ) → bytes_eq a b ≡ false → a ≢ b
+apart a b differ same = true≢false (sym ((bytes_eq-Decides a b).1 same) ∙ differ)
+
 -- a command asks for its own tasks alone
 pub basins_alone : (given : List Given) → ((settings : BasinsSettings) → ¬ (GivesBasins given settings)) → (task : Task)
     → ¬ (IsAsked (codes "basins") given task)
 basins_alone given none (Basins settings) asked = none settings asked.gives
-basins_alone given none (Segment settings) asked = cc asked.command_is
-basins_alone given none (Show tree) asked = cc asked.command_is
+basins_alone given none task asked = apart (command_of task) (codes "basins") refl asked.command_is
 
 pub segment_alone : (given : List Given) → ((settings : SegmentSettings) → ¬ (GivesSegment given settings)) → (task : Task)
     → ¬ (IsAsked (codes "segment") given task)
-segment_alone given none (Basins settings) asked = cc asked.command_is
 segment_alone given none (Segment settings) asked = none settings asked.gives
-segment_alone given none (Show tree) asked = cc asked.command_is
+segment_alone given none task asked = apart (command_of task) (codes "segment") refl asked.command_is
+
+pub make_alone : (given : List Given) → ((settings : MakeSettings) → ¬ (GivesMake given settings)) → (task : Task)
+    → ¬ (IsAsked (codes "make") given task)
+make_alone given none (Make settings) asked = none settings asked.gives
+make_alone given none task asked = apart (command_of task) (codes "make") refl asked.command_is
+
+pub trial_alone : (given : List Given) → ((settings : TrialSettings) → ¬ (GivesTrial given settings)) → (task : Task)
+    → ¬ (IsAsked (codes "trial") given task)
+trial_alone given none (Trial settings) asked = none settings asked.gives
+trial_alone given none task asked = apart (command_of task) (codes "trial") refl asked.command_is
 
 pub show_alone : (given : List Given) → ((tree : List ℕ) → ¬ (GivesShow given tree)) → (task : Task)
     → ¬ (IsAsked (codes "show") given task)
-show_alone given none (Basins settings) asked = cc asked.command_is
-show_alone given none (Segment settings) asked = cc asked.command_is
 show_alone given none (Show tree) asked = none tree asked.gives
+show_alone given none task asked = apart (command_of task) (codes "show") refl asked.command_is
 
 -- ---- the settings of `segment`
 

@@ -1,6 +1,6 @@
 -- What the words of the command line ask for, as the program's own jobs.
 use Rattle.std.specs.Prelude.{ℕ, List, string_bytes}
-use Rattle.command_words.specs.Words.{Task, Basins, Segment, Show, Spells, AreNoSettings}
+use Rattle.command_words.specs.Words.{Task, Basins, Segment, Make, Trial, Show, Spells, AreNoSettings}
 use Rattle.command_words.specs.declared.job.Job.{Job}
 use Rattle.command_words.specs.declared.job.Job.TheVariants as jobs
 use Rattle.command_words.specs.declared.job.WordsFault.{WordsFault}
@@ -14,6 +14,15 @@ task_of (jobs.Segment volume labels tree low threshold chunk workers) = Segment 
   volume = string_bytes volume;
   labels = string_bytes labels;
   tree = string_bytes tree;
+  low = low;
+  threshold = threshold;
+  chunk = chunk;
+  workers = workers;
+})
+task_of (jobs.Make volume start dims) = Make (record { volume = string_bytes volume; start = start; axes = dims })
+task_of (jobs.Trial start dims low threshold chunk workers) = Trial (record {
+  start = start;
+  axes = dims;
   low = low;
   threshold = threshold;
   chunk = chunk;

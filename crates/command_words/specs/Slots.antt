@@ -1,16 +1,16 @@
 -- Options while they are read: a place for the value of each, and the options given so far.
-use Rattle.std.specs.Prelude.{◌≡◌, ◌≢◌, ℕ, ◌+◌, ◌<◌, List, [], ◌∷◌, ◌++◌, length, All, AllPairs, Contains, Option, None, MatchOption, slice_index_or, codes}
-use Rattle.std.specs.List.{flat_map}
+use Rattle.std.specs.Prelude.{◌≡◌, ◌≢◌, ℕ, ◌+◌, ◌==◌, ◌<◌, Bool, List, [], ◌∷◌, ◌++◌, length, All, AllPairs, Contains, Option, None, is_some, MatchOption, slice_index_or, codes}
+use Rattle.std.specs.List.{flat_map, list_any}
 use denote.Ref.{Bor}
 use Rattle.command_words.specs.Words.{Given, given_words, HasValue}
 use Rattle.command_words.specs.Texts.{texts}
 use Rattle.command_words.specs.declared.options.OptionName.{OptionName}
-use Rattle.command_words.specs.declared.options.OptionName.TheVariants.{Volume, Labels, Tree, Low, Merge, Chunk, Workers}
+use Rattle.command_words.specs.declared.options.OptionName.TheVariants.{Volume, Labels, Tree, Low, Merge, Chunk, Workers, Start, Dims}
 use Rattle.command_words.specs.declared.options.Cut.{Cut}
 
 -- the names of all options of all commands
 abbrev pub option_names : List (List ℕ)
-option_names = codes "volume" ∷ codes "labels" ∷ codes "tree" ∷ codes "low" ∷ codes "merge" ∷ codes "chunk" ∷ codes "workers" ∷ []
+option_names = codes "volume" ∷ codes "labels" ∷ codes "tree" ∷ codes "low" ∷ codes "merge" ∷ codes "chunk" ∷ codes "workers" ∷ codes "start" ∷ codes "dims" ∷ []
 
 abbrev pub spelled : OptionName → List ℕ
 spelled Volume = codes "volume"
@@ -20,6 +20,11 @@ spelled Low = codes "low"
 spelled Merge = codes "merge"
 spelled Chunk = codes "chunk"
 spelled Workers = codes "workers"
+spelled Start = codes "start"
+spelled Dims = codes "dims"
+
+abbrev pub all_options : List OptionName
+all_options = Volume ∷ Labels ∷ Tree ∷ Low ∷ Merge ∷ Chunk ∷ Workers ∷ Start ∷ Dims ∷ []
 
 -- the place of an option's value among those of all
 abbrev pub place : OptionName → ℕ
@@ -30,10 +35,20 @@ place Low = 3
 place Merge = 4
 place Chunk = 5
 place Workers = 6
+place Start = 7
+place Dims = 8
 
 -- the value of an option, if there is one
 abbrev pub slot_of : List (Option (Bor (List ℕ))) → OptionName → Option (Bor (List ℕ))
 slot_of values option = slice_index_or values (place option) None
+
+-- the option is one of these
+abbrev pub is_among : OptionName → List OptionName → Bool
+is_among option = list_any (λ other. place other == place option)
+
+-- just these options have a value
+abbrev pub AreGivenJust : List OptionName → List (Option (Bor (List ℕ))) → Type 0
+AreGivenJust options values = All (λ option. is_some (slot_of values option) ≡ is_among option options) all_options
 
 -- no option of this name is given
 abbrev pub IsMissing : List Given → List ℕ → Type 0
@@ -54,7 +69,7 @@ IsSlot options name slot = MatchOption slot (IsMissing options name) (λ value. 
 
 -- each place has the value of its option
 pub record AreSlots (options : List Given) (values : List (Option (Bor (List ℕ)))) : Type 0 where
-  pub seven : length values ≡ 7
+  pub nine : length values ≡ 9
   pub known_once : AreKnownOnce options
   pub slots : (option : OptionName) → IsSlot options (spelled option) (slot_of values option)
 

@@ -2,6 +2,7 @@
 use Rattle.std.specs.Prelude.{◌≡◌, ◌≢◌, ℕ, ◌+◌, ◌*◌, ◌-◌, ◌<◌, ◌≤◌, Bool, if◌then◌else◌, List, [], ◌∷◌, ◌++◌, length, map, fold, All, AllPairs, Contains, slice_index, codes}
 use Rattle.std.specs.List.{flat_map}
 use Rattle.std.specs.Char.{IsAsciiDigit}
+use Rattle.agglo_model.specs.Axes.{Axes, IsWithinLimits}
 use Rattle.agglo_model.specs.PairOrder.{Threshold}
 
 -- a name of a file: any text that is not empty and does not begin with `-`
@@ -41,6 +42,11 @@ pub record AreSizes (word : List ℕ) (sizes : List ℕ) : Type 0 where
   pub y_number : IsNumber 1 65535 y
   pub z_number : IsNumber 1 65535 z
   pub sizes_are : sizes ≡ digits_number x ∷ digits_number y ∷ digits_number z ∷ []
+
+-- the word is three numbers with `,` between them, and spells axes of a volume: they are within its limits
+pub record SpellsAxes (word : List ℕ) (axes : Axes) : Type 0 where
+  pub sizes : AreSizes word (axes.nx ∷ axes.ny ∷ axes.nz ∷ [])
+  pub limits : IsWithinLimits axes
 
 -- ---- options
 
@@ -89,6 +95,12 @@ pub record HasSizes (options : List Given) (name sizes : List ℕ) : Type 0 wher
   pub given : HasValue options name word
   pub sizes_are : AreSizes word sizes
 
+-- an option of this name is given the axes of a volume
+pub record HasAxes (options : List Given) (name : List ℕ) (axes : Axes) : Type 0 where
+  pub word : List ℕ
+  pub given : HasValue options name word
+  pub axes_are : SpellsAxes word axes
+
 -- ---- commands
 
 -- what the options of `basins` say
@@ -136,22 +148,62 @@ pub record GivesShow (options : List Given) (tree : List ℕ) : Type 0 where
   pub options_are : AreOptionsOf (codes "tree" ∷ []) options
   pub tree_name : HasName options (codes "tree") tree
 
+-- what the options of `make` say
+pub record MakeSettings : Type 0 where
+  pub volume : List ℕ
+  pub start : ℕ
+  pub axes : Axes
+
+pub record GivesMake (options : List Given) (settings : MakeSettings) : Type 0 where
+  pub options_are : AreOptionsOf (codes "volume" ∷ codes "start" ∷ codes "dims" ∷ []) options
+  pub volume : HasName options (codes "volume") settings.volume
+  pub start : HasNumber options (codes "start") 0 4294967295 settings.start
+  pub dims : HasAxes options (codes "dims") settings.axes
+
+-- what the options of `trial` say
+pub record TrialSettings : Type 0 where
+  pub start : ℕ
+  pub axes : Axes
+  pub low : ℕ
+  pub threshold : Threshold
+  pub chunk : List ℕ
+  pub workers : ℕ
+
+-- the names of the options of `trial`
+abbrev pub trial_options : List (List ℕ)
+trial_options = codes "start" ∷ codes "dims" ∷ codes "low" ∷ codes "merge" ∷ codes "chunk" ∷ codes "workers" ∷ []
+
+pub record GivesTrial (options : List Given) (settings : TrialSettings) : Type 0 where
+  pub options_are : AreOptionsOf trial_options options
+  pub start : HasNumber options (codes "start") 0 4294967295 settings.start
+  pub dims : HasAxes options (codes "dims") settings.axes
+  pub low : HasNumber options (codes "low") 0 255 settings.low
+  pub merge : HasFraction options (codes "merge") settings.threshold
+  pub chunk : HasSizes options (codes "chunk") settings.chunk
+  pub workers : HasNumber options (codes "workers") 1 32 settings.workers
+
 -- what words ask for
 pub data Task : Type 0 where
   Basins : BasinsSettings → Task
   Segment : SegmentSettings → Task
+  Make : MakeSettings → Task
+  Trial : TrialSettings → Task
   Show : List ℕ → Task
 
 -- the command word
 abbrev pub command_of : Task → List ℕ
 command_of (Basins settings) = codes "basins"
 command_of (Segment settings) = codes "segment"
+command_of (Make settings) = codes "make"
+command_of (Trial settings) = codes "trial"
 command_of (Show tree) = codes "show"
 
 -- what follows it
 abbrev pub Gives : List Given → Task → Type 0
 Gives options (Basins settings) = GivesBasins options settings
 Gives options (Segment settings) = GivesSegment options settings
+Gives options (Make settings) = GivesMake options settings
+Gives options (Trial settings) = GivesTrial options settings
 Gives options (Show tree) = GivesShow options tree
 
 -- The words are settings, and ask for this: the command word, and then its options one after another.
@@ -175,6 +227,6 @@ pub record AreSomeSizes (sizes : List ℕ) : Type 0 where
   pub z : 0 < slice_index sizes 2
 
 -- the sizes of leaves that words spell are not 0
-abbrev pub SizesAreSome : Type 0
-SizesAreSome = (words : List (List ℕ)) (settings : SegmentSettings) → Spells words (Segment settings)
-    → AreSomeSizes settings.chunk
+pub record SizesAreSome : Type 0 where
+  pub of_segment : (words : List (List ℕ)) (settings : SegmentSettings) → Spells words (Segment settings) → AreSomeSizes settings.chunk
+  pub of_trial : (words : List (List ℕ)) (settings : TrialSettings) → Spells words (Trial settings) → AreSomeSizes settings.chunk

@@ -1,4 +1,5 @@
 use mean_fraction::Threshold;
+use seg_base::Dims;
 use std::alloc::AllocError;
 use thiserror::Error;
 
@@ -17,6 +18,21 @@ pub enum Job {
         volume: String,
         labels: String,
         tree: String,
+        low: u8,
+        threshold: Threshold,
+        chunk: [u32; 3],
+        workers: u32,
+    },
+    /// Write the file of the volume of these axes that a generator makes from this number.
+    Make {
+        volume: String,
+        start: u32,
+        dims: Dims,
+    },
+    /// Make such a volume in memory, segment it as `Segment` does, and report the merges.
+    Trial {
+        start: u32,
+        dims: Dims,
         low: u8,
         threshold: Threshold,
         chunk: [u32; 3],

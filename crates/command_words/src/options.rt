@@ -1,11 +1,13 @@
-ghost use Rattle.std.specs.Prelude.{◌≡◌, ℕ, ◌<◌, ◌≢◌, List, IsTrue, MatchBool, MatchOption, IfSome, IsSome, Some, None, ◌≤◌, All, ◌↔◌, length, slice_index_or, slice_set, Contains};
+ghost use Rattle.std.specs.Prelude.{◌≡◌, ℕ, ◌<◌, ◌≢◌, List, IsTrue, MatchBool, MatchOption, IfSome, IsSome, is_some, Some, None, ◌≤◌, All, ◌↔◌, length, slice_index_or, slice_set, Contains};
 ghost use Rattle.command_words.specs.Texts.{texts};
-ghost use Rattle.command_words.specs.Slots.{option_names, spelled, place, slot_of, AreNoOptions, IsCut, IsNoOption, AreSlots, ReadsOptions};
+ghost use Rattle.command_words.specs.Slots.{option_names, is_among, AreGivenJust, spelled, place, slot_of, AreNoOptions, IsCut, IsNoOption, AreSlots, ReadsOptions};
+ghost use Rattle.agglo_model.specs.Axes.{Axes};
 ghost use Rattle.agglo_model.specs.PairOrder.{Threshold as Fraction};
-ghost use Rattle.command_words.specs.Words.{Given, HasName, HasNumber, HasFraction, HasSizes};
+ghost use Rattle.command_words.specs.Words.{Given, HasName, HasNumber, HasFraction, HasSizes, HasAxes};
 
-use crate::values::{cut_at, is_name, parse_fraction, parse_number, parse_sizes};
+use crate::values::{cut_at, is_name, parse_axes, parse_fraction, parse_number, parse_sizes};
 use mean_fraction::Threshold;
+use seg_base::Dims;
 
 /// The name of an option that some command has.
 #[derive(Clone, Copy, Debug, PartialEq, Eq)]
@@ -17,9 +19,24 @@ pub enum OptionName {
     Merge,
     Chunk,
     Workers,
+    Start,
+    Dims,
 }
 
 impl OptionName {
+    /// All options.
+    const ALL: [OptionName; 9] = [
+        OptionName::Volume,
+        OptionName::Labels,
+        OptionName::Tree,
+        OptionName::Low,
+        OptionName::Merge,
+        OptionName::Chunk,
+        OptionName::Workers,
+        OptionName::Start,
+        OptionName::Dims,
+    ];
+
     /// The option of this name.
     fn of(name: &str) -> Option<OptionName>
         ensures { MatchOption result (¬ (Contains option_names name.now)) (λ option. name.now ≡ spelled option) }
@@ -32,14 +49,23 @@ impl OptionName {
             "merge" => Some(OptionName::Merge),
             "chunk" => Some(OptionName::Chunk),
             "workers" => Some(OptionName::Workers),
+            "start" => Some(OptionName::Start),
+            "dims" => Some(OptionName::Dims),
             _ => None,
         }
+    }
+
+    /// Whether the option is one of these.
+    fn is_among(self, options: &[OptionName]) -> bool
+        ensures { result ≡ is_among self options.now }
+    {
+        options.iter().any(|option| option.place() == self.place())
     }
 
     /// The place of the option in a list of all.
     fn place(self) -> usize
         ensures value { result ≡ place self }
-        ensures seven { result < 7 }
+        ensures nine { result < 9 }
     {
         match self {
             OptionName::Volume => 0,
@@ -49,6 +75,8 @@ impl OptionName {
             OptionName::Merge => 4,
             OptionName::Chunk => 5,
             OptionName::Workers => 6,
+            OptionName::Start => 7,
+            OptionName::Dims => 8,
         }
     }
 }
@@ -56,7 +84,7 @@ impl OptionName {
 /// The value of each option that words give, in the order of `OptionName`.
 #[derive(Clone, Copy)]
 pub struct Options<'a> {
-    pub values: [Option<&'a str>; 7],
+    pub values: [Option<&'a str>; 9],
 }
 
 impl<'a> Options<'a> {
@@ -67,11 +95,25 @@ impl<'a> Options<'a> {
         self.values[option.place()]
     }
 
-    /// Whether none of these options is given.
-    pub fn lack(&self, options: &[OptionName]) -> bool
-        ensures { IsTrue result ↔ All (λ option. slot_of self.now.values option ≡ None) options.now }
+    /// Whether just these options are given.
+    pub fn are(&self, options: &[OptionName]) -> bool
+        ensures { IsTrue result ↔ AreGivenJust options.now self.now.values }
     {
-        options.iter().all(|option| self.value(*option).is_none())
+        self.agree(&OptionName::ALL, options)
+    }
+
+    /// Whether of all options just these are given.
+    fn agree(&self, all: &[OptionName], options: &[OptionName]) -> bool
+        ensures { IsTrue result ↔ All (λ option. is_some (slot_of self.now.values option) ≡ is_among option options.now) all.now }
+    {
+        all.iter().all(|option| self.agrees(*option, options))
+    }
+
+    /// Whether an option is given just where it is one of these.
+    fn agrees(&self, option: OptionName, options: &[OptionName]) -> bool
+        ensures { IsTrue result ↔ (is_some (slot_of self.now.values option) ≡ is_among option options.now) }
+    {
+        self.value(option).is_some() == option.is_among(options)
     }
 }
 
@@ -124,6 +166,18 @@ impl<'a> Options<'a> {
         };
         parse_sizes(word)
     }
+
+    /// The axes that an option is given.
+    pub fn axes(&self, option: OptionName) -> Option<Dims>
+        ensures { (given : List Given) → AreSlots given self.now.values → MatchOption result
+            ((axes : Axes) → ¬ (HasAxes given (spelled option) axes))
+            (λ axes. HasAxes given (spelled option) axes) }
+    {
+        let Some(word) = self.value(option) else {
+            return None;
+        };
+        parse_axes(word)
+    }
 }
 
 /// One option, and the words after it.
@@ -139,7 +193,7 @@ pub struct Cut<'a> {
 pub fn read_options(words: &[String]) -> Option<Options<'_>>
     ensures { MatchOption result (AreNoOptions (texts words.now)) (λ options. ReadsOptions (texts words.now) options.values) }
 {
-    let mut values: [Option<&str>; 7] = [None; 7];
+    let mut values: [Option<&str>; 9] = [None; 9];
     let mut rest = words;
     while !rest.is_empty() {
         let Some(cut) = cut_first(rest) else {

@@ -1,9 +1,16 @@
 ghost use Rattle.std.specs.Prelude.{◌≡◌, ℕ, List, MatchOption};
-ghost use Rattle.command_words.specs.Words.{BasinsSettings, SegmentSettings, Given, GivesBasins, GivesSegment, GivesShow};
+ghost use Rattle.command_words.specs.Words.{BasinsSettings, SegmentSettings, MakeSettings, TrialSettings, Given, GivesBasins, GivesSegment, GivesMake, GivesTrial, GivesShow};
 ghost use Rattle.command_words.specs.Slots.{AreSlots};
 
 use crate::options::{OptionName, Options};
 use mean_fraction::Threshold;
+use seg_base::Dims;
+
+/// The most lanes in which nodes are merged.
+const MOST_WORKERS: u64 = 32;
+
+/// The greatest number that a generated volume starts from.
+const GREATEST_START: u64 = 4_294_967_295;
 
 /// What the options of `basins` say.
 #[derive(Clone, Copy)]
@@ -11,6 +18,25 @@ pub struct BasinsValues<'a> {
     pub volume: &'a str,
     pub labels: &'a str,
     pub low: u8,
+}
+
+/// What the options of `make` say.
+#[derive(Clone, Copy)]
+pub struct MakeValues<'a> {
+    pub volume: &'a str,
+    pub start: u32,
+    pub dims: Dims,
+}
+
+/// What the options of `trial` say.
+#[derive(Clone, Copy)]
+pub struct TrialValues {
+    pub start: u32,
+    pub dims: Dims,
+    pub low: u8,
+    pub threshold: Threshold,
+    pub chunk: [u32; 3],
+    pub workers: u32,
 }
 
 /// What the options of `segment` say.
@@ -25,19 +51,40 @@ pub struct SegmentValues<'a> {
     pub workers: u32,
 }
 
+/// The options of `basins`.
+const BASINS_OPTIONS: [OptionName; 3] = [OptionName::Volume, OptionName::Labels, OptionName::Low];
+
+/// The options of `segment`.
+const SEGMENT_OPTIONS: [OptionName; 7] = [
+    OptionName::Volume,
+    OptionName::Labels,
+    OptionName::Tree,
+    OptionName::Low,
+    OptionName::Merge,
+    OptionName::Chunk,
+    OptionName::Workers,
+];
+
+/// The options of `make`.
+const MAKE_OPTIONS: [OptionName; 3] = [OptionName::Volume, OptionName::Start, OptionName::Dims];
+
+/// The options of `trial`.
+const TRIAL_OPTIONS: [OptionName; 6] = [
+    OptionName::Start,
+    OptionName::Dims,
+    OptionName::Low,
+    OptionName::Merge,
+    OptionName::Chunk,
+    OptionName::Workers,
+];
+
 /// The settings of `basins`, where these options are settings.
 pub fn basins_values<'a>(options: &Options<'a>) -> Option<BasinsValues<'a>>
     ensures { (given : List Given) → AreSlots given options.now.values → MatchOption result
         ((settings : BasinsSettings) → ¬ (GivesBasins given settings))
         (λ values. GivesBasins given (record { volume = values.volume.now; labels = values.labels.now; low = values.low })) }
 {
-    let others = [
-        OptionName::Tree,
-        OptionName::Merge,
-        OptionName::Chunk,
-        OptionName::Workers,
-    ];
-    if !options.lack(&others) {
+    if !options.are(&BASINS_OPTIONS) {
         return None;
     }
     let Some(volume) = options.name(OptionName::Volume) else {
@@ -65,15 +112,7 @@ pub fn show_values<'a>(options: &Options<'a>) -> Option<&'a str>
         ((tree : List ℕ) → ¬ (GivesShow given tree))
         (λ tree. GivesShow given tree.now) }
 {
-    let others = [
-        OptionName::Volume,
-        OptionName::Labels,
-        OptionName::Low,
-        OptionName::Merge,
-        OptionName::Chunk,
-        OptionName::Workers,
-    ];
-    if !options.lack(&others) {
+    if !options.are(&[OptionName::Tree]) {
         return None;
     }
     options.name(OptionName::Tree)
@@ -93,6 +132,9 @@ pub fn segment_values<'a>(options: &Options<'a>) -> Option<SegmentValues<'a>>
           workers = values.workers;
         })) }
 {
+    if !options.are(&SEGMENT_OPTIONS) {
+        return None;
+    }
     let Some(volume) = options.name(OptionName::Volume) else {
         return None;
     };
@@ -114,13 +156,82 @@ pub fn segment_values<'a>(options: &Options<'a>) -> Option<SegmentValues<'a>>
     let Some(chunk) = options.sizes(OptionName::Chunk) else {
         return None;
     };
-    let Some(workers) = options.number(OptionName::Workers, 1, 32) else {
+    let Some(workers) = options.number(OptionName::Workers, 1, MOST_WORKERS) else {
         return None;
     };
     Some(SegmentValues {
         volume,
         labels,
         tree,
+        low: low as u8,
+        threshold,
+        chunk,
+        workers: workers as u32,
+    })
+}
+
+/// The settings of `make`, where these options are settings.
+pub fn make_values<'a>(options: &Options<'a>) -> Option<MakeValues<'a>>
+    ensures { (given : List Given) → AreSlots given options.now.values → MatchOption result
+        ((settings : MakeSettings) → ¬ (GivesMake given settings))
+        (λ values. GivesMake given (record { volume = values.volume.now; start = values.start; axes = values.dims })) }
+{
+    if !options.are(&MAKE_OPTIONS) {
+        return None;
+    }
+    let Some(volume) = options.name(OptionName::Volume) else {
+        return None;
+    };
+    let Some(start) = options.number(OptionName::Start, 0, GREATEST_START) else {
+        return None;
+    };
+    let Some(dims) = options.axes(OptionName::Dims) else {
+        return None;
+    };
+    Some(MakeValues {
+        volume,
+        start: start as u32,
+        dims,
+    })
+}
+
+/// The settings of `trial`, where these options are settings.
+pub fn trial_values(options: &Options<'_>) -> Option<TrialValues>
+    ensures { (given : List Given) → AreSlots given options.now.values → MatchOption result
+        ((settings : TrialSettings) → ¬ (GivesTrial given settings))
+        (λ values. GivesTrial given (record {
+          start = values.start;
+          axes = values.dims;
+          low = values.low;
+          threshold = values.threshold;
+          chunk = values.chunk;
+          workers = values.workers;
+        })) }
+{
+    if !options.are(&TRIAL_OPTIONS) {
+        return None;
+    }
+    let Some(start) = options.number(OptionName::Start, 0, GREATEST_START) else {
+        return None;
+    };
+    let Some(dims) = options.axes(OptionName::Dims) else {
+        return None;
+    };
+    let Some(low) = options.number(OptionName::Low, 0, 255) else {
+        return None;
+    };
+    let Some(threshold) = options.fraction(OptionName::Merge) else {
+        return None;
+    };
+    let Some(chunk) = options.sizes(OptionName::Chunk) else {
+        return None;
+    };
+    let Some(workers) = options.number(OptionName::Workers, 1, MOST_WORKERS) else {
+        return None;
+    };
+    Some(TrialValues {
+        start: start as u32,
+        dims,
         low: low as u8,
         threshold,
         chunk,

@@ -9,22 +9,22 @@ enum Trouble {
     OtherJob,
 }
 
-/// What these words ask for.
-fn read(alloc: Global, words: &[&str]) -> Result<Result<Job, WordsFault>, Trouble> {
-    let mut texts = Vec::new(alloc);
-    for word in words {
+/// What the words of this line ask for, with a space between two words.
+fn read(alloc: Global, line: &str) -> Result<Result<Job, WordsFault>, Trouble> {
+    let mut words = Vec::new(alloc);
+    for word in line.split(' ') {
         let text = String::from_str(alloc, word).map_err(Trouble::Alloc)?;
-        texts
+        words
             .push(text)
             .map_err(AllocError::from)
             .map_err(Trouble::Alloc)?;
     }
-    Ok(read_words(alloc, &texts))
+    Ok(read_words(alloc, &words))
 }
 
 /// The names and the number that these words of `basins` give.
-fn read_basins(alloc: Global, words: &[&str]) -> Result<(String, String, u8), Trouble> {
-    match read(alloc, words)?.map_err(Trouble::Words)? {
+fn read_basins(alloc: Global, line: &str) -> Result<(String, String, u8), Trouble> {
+    match read(alloc, line)?.map_err(Trouble::Words)? {
         Job::Basins {
             volume,
             labels,
@@ -36,8 +36,8 @@ fn read_basins(alloc: Global, words: &[&str]) -> Result<(String, String, u8), Tr
 
 #[test]
 fn options_stand_in_any_order_and_form(rt: HostRuntime) -> Result<(), Trouble> {
-    let words = ["basins", "--low=007", "--labels", "l", "--volume=a=b"];
-    let (volume, labels, low) = read_basins(rt.alloc(), &words)?;
+    let line = "basins --low=007 --labels l --volume=a=b";
+    let (volume, labels, low) = read_basins(rt.alloc(), line)?;
     assert!(rt; volume.as_str() == "a=b");
     assert!(rt; labels.as_str() == "l");
     assert_eq!(rt; low, 7);
@@ -56,8 +56,8 @@ struct Given {
     workers: u32,
 }
 
-fn read_segment(alloc: Global, words: &[&str]) -> Result<Given, Trouble> {
-    match read(alloc, words)?.map_err(Trouble::Words)? {
+fn read_segment(alloc: Global, line: &str) -> Result<Given, Trouble> {
+    match read(alloc, line)?.map_err(Trouble::Words)? {
         Job::Segment {
             volume,
             labels,
@@ -81,20 +81,9 @@ fn read_segment(alloc: Global, words: &[&str]) -> Result<Given, Trouble> {
 
 #[test]
 fn options_of_segment_stand_in_any_order_and_form(rt: HostRuntime) -> Result<(), Trouble> {
-    let words = [
-        "segment",
-        "--workers",
-        "32",
-        "--chunk=64,065,7",
-        "--merge",
-        "3/8",
-        "--tree=t",
-        "--volume",
-        "v=w",
-        "--low=255",
-        "--labels=l",
-    ];
-    let given = read_segment(rt.alloc(), &words)?;
+    let line =
+        "segment --workers 32 --chunk=64,065,7 --merge 3/8 --tree=t --volume v=w --low=255 --labels=l";
+    let given = read_segment(rt.alloc(), line)?;
     assert!(rt; given.volume.as_str() == "v=w");
     assert!(rt; given.labels.as_str() == "l");
     assert!(rt; given.tree.as_str() == "t");
@@ -106,19 +95,93 @@ fn options_of_segment_stand_in_any_order_and_form(rt: HostRuntime) -> Result<(),
     Ok(())
 }
 
-/// Whether words are no settings.
-fn is_refused(alloc: Global, words: &[&str]) -> Result<bool, Trouble> {
-    Ok(matches!(read(alloc, words)?, Err(WordsFault::NoSettings)))
+/// The name that these words of `make` give, and the start and the axes.
+fn read_make(alloc: Global, line: &str) -> Result<(String, [u32; 4]), Trouble> {
+    match read(alloc, line)?.map_err(Trouble::Words)? {
+        Job::Make {
+            volume,
+            start,
+            dims,
+        } => Ok((volume, [start, dims.nx(), dims.ny(), dims.nz()])),
+        _ => Err(Trouble::OtherJob),
+    }
 }
+
+/// What these words of `trial` give: the start, the axes, `low`, the threshold, the sizes of leaves
+/// and the workers.
+fn read_trial(alloc: Global, line: &str) -> Result<[u32; 11], Trouble> {
+    match read(alloc, line)?.map_err(Trouble::Words)? {
+        Job::Trial {
+            start,
+            dims,
+            low,
+            threshold,
+            chunk,
+            workers,
+        } => {
+            let [x, y, z] = chunk;
+            let low = u32::from(low);
+            let (nx, ny, nz) = (dims.nx(), dims.ny(), dims.nz());
+            let (p, q) = (threshold.p(), threshold.q());
+            Ok([start, nx, ny, nz, low, p, q, x, y, z, workers])
+        }
+        _ => Err(Trouble::OtherJob),
+    }
+}
+
+#[test]
+fn options_of_make_and_trial_give_numbers_and_axes(rt: HostRuntime) -> Result<(), Trouble> {
+    let line = "make --dims=65535,4096,1 --volume v --start=4294967295";
+    let (volume, numbers) = read_make(rt.alloc(), line)?;
+    assert!(rt; volume.as_str() == "v");
+    assert!(rt; numbers == [4_294_967_295, 65_535, 4096, 1]);
+    let line =
+        "trial --start 7 --dims 64,63,62 --low=20 --merge 128/3 --chunk 16,17,18 --workers=8";
+    let numbers = read_trial(rt.alloc(), line)?;
+    assert!(rt; numbers == [7, 64, 63, 62, 20, 128, 3, 16, 17, 18, 8]);
+    Ok(())
+}
+
+/// How many of these lines are no settings.
+fn count_refused(alloc: Global, lines: &[&str]) -> Result<u32, Trouble> {
+    let mut count = 0u32;
+    for line in lines {
+        if let Err(WordsFault::NoSettings) = read(alloc, line)? {
+            count = count.saturating_add(1);
+        }
+    }
+    Ok(count)
+}
+
+/// Lines of which each has one fault.
+static FAULTY: [&str; 20] = [
+    "",
+    "shows --tree t",
+    "show",
+    "show --tree=",
+    "show --tree --",
+    "show --tree -",
+    "show --tree t --tree t",
+    "show --tree t u",
+    "show -- --tree t",
+    "show --low 1 --tree t",
+    "basins --volume v --labels l --low 256",
+    "basins --volume v --labels v --low 1",
+    "basins --volume v --labels l --low=1 --low=1",
+    "segment --tree t",
+    "make --volume v --start 4294967296 --dims 1,1,1",
+    "make --volume v --start 0 --dims 4,0,1",
+    "make --volume v --start 0 --dims 65535,4097,1",
+    "trial --start 0 --dims 4,1,1 --low 1 --merge 5/0 --chunk 1,1,1 --workers 1",
+    "trial --start 0 --dims 4,1,1 --low 1 --merge 5/1 --chunk 0,1,1 --workers 1",
+    "trial --start 0 --dims 4,1,1 --low 1 --merge 5/1 --chunk 1,1,1 --workers 33",
+];
 
 #[test]
 fn words_that_are_no_settings_are_refused(rt: HostRuntime) -> Result<(), Trouble> {
     let alloc = rt.alloc();
-    assert!(rt; is_refused(alloc, &[])?);
-    assert!(rt; is_refused(alloc, &["show"])?);
-    assert!(rt; is_refused(alloc, &["show", "--tree="])?);
-    assert!(rt; is_refused(alloc, &["segment", "--tree", "t"])?);
-    assert!(rt; is_refused(alloc, &["show", "--tree", "t", "--tree", "t"])?);
-    assert!(rt; !is_refused(alloc, &["show", "--tree", "t"])?);
+    assert!(rt; matches!(read_words(alloc, &[]), Err(WordsFault::NoSettings)));
+    assert_eq!(rt; count_refused(alloc, &FAULTY)?, 20);
+    assert_eq!(rt; count_refused(alloc, &["show --tree t"])?, 0);
     Ok(())
 }

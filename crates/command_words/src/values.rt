@@ -1,10 +1,12 @@
 ghost use Rattle.std.specs.Prelude.{◌≡◌, ◌<◌, ◌≤◌, ◌↔◌, ◌∷◌, ◌++◌, [], ℕ, List, IsTrue, All, MatchOption, length};
 ghost use Rattle.std.specs.Char.{IsAsciiDigit};
+ghost use Rattle.agglo_model.specs.Axes.{Axes};
 ghost use Rattle.agglo_model.specs.PairOrder.{Threshold as Fraction};
-ghost use Rattle.command_words.specs.Words.{IsName, IsNumber, IsFraction, AreSizes, digits_number};
+ghost use Rattle.command_words.specs.Words.{IsName, IsNumber, IsFraction, AreSizes, digits_number, SpellsAxes};
 ghost use Rattle.command_words.specs.Parts.{IsWithout};
 
 use mean_fraction::Threshold;
+use seg_base::Dims;
 
 /// The most digits that a number may have, leading zeros among them.
 const MOST_DIGITS: usize = 10;
@@ -99,4 +101,17 @@ pub fn parse_sizes(word: &str) -> Option<[u32; 3]>
         return None;
     };
     Some([x as u32, y as u32, z as u32])
+}
+
+/// The axes of a volume that three numbers with `,` between them spell.
+pub fn parse_axes(word: &str) -> Option<Dims>
+    ensures { MatchOption result ((axes : Axes) → ¬ (SpellsAxes word.now axes)) (λ axes. SpellsAxes word.now axes) }
+{
+    let Some(sizes) = parse_sizes(word) else {
+        return None;
+    };
+    match Dims::new(sizes[0], sizes[1], sizes[2]) {
+        Ok(dims) => Some(dims),
+        Err(_) => None,
+    }
 }

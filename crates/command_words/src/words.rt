@@ -5,7 +5,7 @@ ghost use Rattle.command_words.specs.Texts.{texts};
 
 use crate::job::{Job, WordsFault};
 use crate::options::{Options, read_options};
-use crate::settings::{basins_values, segment_values, show_values};
+use crate::settings::{basins_values, make_values, segment_values, show_values, trial_values};
 use std::alloc::Global;
 
 /// What the words after the program's name ask for. Words that are no settings are refused without
@@ -29,6 +29,8 @@ fn read_command(alloc: Global, command: &str, options: &Options<'_>) -> Result<J
     match command {
         "basins" => read_basins(alloc, options),
         "segment" => read_segment(alloc, options),
+        "make" => read_make(alloc, options),
+        "trial" => read_trial(options),
         "show" => read_show(alloc, options),
         _ => Err(WordsFault::NoSettings),
     }
@@ -65,6 +67,37 @@ fn read_segment(alloc: Global, options: &Options<'_>) -> Result<Job, WordsFault>
         low: values.low,
         threshold: values.threshold,
         chunk: values.chunk,
+        workers: values.workers,
+    })
+}
+
+fn read_make(alloc: Global, options: &Options<'_>) -> Result<Job, WordsFault>
+    ensures { MakesJob (codes "make") options.now.values result }
+{
+    let Some(values) = make_values(options) else {
+        return Err(WordsFault::NoSettings);
+    };
+    let volume = String::from_str(alloc, values.volume)?;
+    Ok(Job::Make {
+        volume,
+        start: values.start,
+        dims: values.dims,
+    })
+}
+
+fn read_trial(options: &Options<'_>) -> Result<Job, WordsFault>
+    ensures { MakesJob (codes "trial") options.now.values result }
+{
+    let Some(values) = trial_values(options) else {
+        return Err(WordsFault::NoSettings);
+    };
+    let chunk = values.chunk;
+    Ok(Job::Trial {
+        start: values.start,
+        dims: values.dims,
+        low: values.low,
+        threshold: values.threshold,
+        chunk,
         workers: values.workers,
     })
 }

@@ -1,11 +1,12 @@
-use Rattle.std.proofs.Common.{refl, sym, ◌∙◌}
+use Rattle.std.proofs.Common.{[], ◌∷◌, true≢false, sym, refl, ◌∙◌}
 use Rattle.std.proofs.lemmas.Slice.Eq.{bytes_eq-Decides}
-use Rattle.command_words.proofs.OptionsOf.{basins_lack, basins_options_from, same_name}
+use Rattle.command_words.specs.declared.options.OptionName.TheVariants.{Volume, Labels, Low}
+use Rattle.command_words.proofs.OptionsOf.{given_just, just_options, same_name}
 use Rattle.command_words.proofs.settings.basins_values.Goals as goal
 
-pub returns-then-not-lack : goal.returns-then-not-lack
-returns-then-not-lack c = λ given slots settings gives.
-    cc (c.if-not-lack.ensures.1 (basins_lack given c.args.options.now.values slots gives.options_are))
+pub returns-then-not-are : goal.returns-then-not-are
+returns-then-not-are c = λ given slots settings gives.
+    true≢false (sym (c.if-not-are.ensures.1 (given_just (Volume ∷ Labels ∷ Low ∷ []) given c.args.options.now.values slots gives.options_are)))
 
 pub returns-in_default : goal.returns-in_default
 returns-in_default c = λ given slots settings gives. c.in_default.ensures given slots settings.volume gives.volume
@@ -24,8 +25,7 @@ returns-then-eq c = λ given slots settings gives. gives.differ
 
 pub returns : goal.returns
 returns c = λ given slots. record {
-  options_are = basins_options_from given c.args.options.now.values _ _ _ slots (c.if-not-lack.ensures.0 refl)
-      (c.in-Some.ensures given slots).given (c.in-Some-name.ensures given slots).given (c.in-Some-number.ensures.number given slots).given;
+  options_are = just_options (Volume ∷ Labels ∷ Low ∷ []) given c.args.options.now.values slots (c.if-not-are.ensures.0 refl);
   volume = c.in-Some.ensures given slots;
   labels = c.in-Some-name.ensures given slots;
   low = c.in-Some-number.ensures.number given slots;

@@ -1,8 +1,13 @@
-use Rattle.std.proofs.Common.{sym, ◌∙◌}
+use Rattle.std.proofs.Common.{[], ◌∷◌, true≢false, sym, refl, ◌∙◌}
 use Rattle.std.proofs.lemmas.Slice.Eq.{bytes_eq-Decides}
-use Rattle.command_words.proofs.OptionsOf.{segment_options_from, same_name}
+use Rattle.command_words.specs.declared.options.OptionName.TheVariants.{Volume, Labels, Tree, Low, Merge, Chunk, Workers}
+use Rattle.command_words.proofs.OptionsOf.{given_just, just_options, same_name}
 use Rattle.command_words.proofs.settings.segment_values.Goals as goal
 use Rattle.command_words.proofs.settings.segment_values.Goals.{then-eq-via-then-eq, then-eq-via-else-eq+then-eq-2, then-eq-via-else-eq+else-eq-2+then-eq-3}
+
+pub returns-then-not-are : goal.returns-then-not-are
+returns-then-not-are c = λ given slots settings gives.
+    true≢false (sym (c.if-not-are.ensures.1 (given_just (Volume ∷ Labels ∷ Tree ∷ Low ∷ Merge ∷ Chunk ∷ Workers ∷ []) given c.args.options.now.values slots gives.options_are)))
 
 pub returns-in_default : goal.returns-in_default
 returns-in_default c = λ given slots settings gives. c.in_default.ensures given slots settings.volume gives.volume
@@ -49,8 +54,7 @@ returns c = λ given slots.
     let chunk = c.in-Some-sizes.ensures given slots in
     let workers = c.in-Some-number-2.ensures.number given slots in
     record {
-      options_are = segment_options_from given _ _ _ _ _ _ _ slots.known_once volume.given labels.given tree.given low.given
-          merge.given chunk.given workers.given;
+      options_are = just_options (Volume ∷ Labels ∷ Tree ∷ Low ∷ Merge ∷ Chunk ∷ Workers ∷ []) given c.args.options.now.values slots (c.if-not-are.ensures.0 refl);
       volume = volume;
       labels = labels;
       tree = tree;

@@ -1,11 +1,12 @@
-use Rattle.std.proofs.Common.{refl}
-use Rattle.command_words.proofs.OptionsOf.{show_lack, show_outcome}
+use Rattle.std.proofs.Common.{[], ◌∷◌, true≢false, sym, refl}
+use Rattle.command_words.specs.declared.options.OptionName.TheVariants.{Tree}
+use Rattle.command_words.proofs.OptionsOf.{given_just, just_options, show_outcome}
 use Rattle.command_words.proofs.settings.show_values.Goals as goal
 
-pub returns-then-not-lack : goal.returns-then-not-lack
-returns-then-not-lack c = λ given slots tree gives.
-    cc (c.if-not-lack.ensures.1 (show_lack given c.args.options.now.values slots gives.options_are))
+pub returns-then-not-are : goal.returns-then-not-are
+returns-then-not-are c = λ given slots tree gives.
+    true≢false (sym (c.if-not-are.ensures.1 (given_just (Tree ∷ []) given c.args.options.now.values slots gives.options_are)))
 
 pub returns : goal.returns
-returns c = λ given slots. show_outcome c.name.result given c.args.options.now.values slots (c.if-not-lack.ensures.0 refl)
-    (c.name.ensures given slots)
+returns c = λ given slots. show_outcome c.name.result given
+    (just_options (Tree ∷ []) given c.args.options.now.values slots (c.if-not-are.ensures.0 refl)) (c.name.ensures given slots)
