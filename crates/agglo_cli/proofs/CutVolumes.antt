@@ -1,7 +1,6 @@
 -- The states of a desk whose input is read as a volume that is to be cut: the header, and then the body.
-use Rattle.std.proofs.Common.{◌≡◌, ◌==◌, ℕ, ◌+◌, ◌≤◌, ◌<◌, nat_lt, Bool, true, false, List, drop, slice_index, Option, Some, None, IfSome, refl, sym, ap, subst, ◌∙◌, inl, inr, arith, if◌then◌else◌}
-use Rattle.std.specs.Option.{option_map, option_or}
-use Rattle.std.proofs.lemmas.Bool.{cases_lt}
+use Rattle.std.proofs.Common.{◌≡◌, ◌==◌, ℕ, ◌+◌, ◌^◌, ◌<◌, nat_lt, Bool, true, false, List, drop, slice_index, Option, Some, None, IfSome, refl, sym, ap, subst, ◌∙◌, inl, inr, arith, if◌then◌else◌}
+use Rattle.std.specs.Option.{option_map, option_or, option_and_then}
 use Rattle.std.proofs.lemmas.Bool.Decides.{nat_tests}
 use Rattle.agglo_model.specs.Axes.{Axes, edge_count}
 use Rattle.agglo_model.specs.Grid.{Grid}
@@ -22,7 +21,7 @@ use Rattle.refusals.specs.declared.refusal.Refusal.{Refusal}
 use Rattle.refusals.specs.declared.refusal.Refusal.TheVariants.{Volume, Leaves}
 use Rattle.refusals.specs.Refusal.{volume_refusal}
 use Rattle.agglo_cli.specs.Answers.{ReadsCutVolume}
-use Rattle.agglo_cli.specs.Flaws.{volume_flaw_refusal, leaves_refusal, segment_refusal, RefusesInput}
+use Rattle.agglo_cli.specs.Flaws.{volume_flaw_refusal, sizes_refusal, leaves_refusal, segment_refusal, RefusesInput, RefusesNumbers}
 use Rattle.agglo_cli.specs.Reading.{OpensFile}
 use Rattle.agglo_cli.proofs.ReadFile.{if_some, if_both, any_bytes, opens_file, fails_to_read, reads_volume, told_flaw}
 
@@ -31,89 +30,52 @@ use Rattle.agglo_cli.proofs.ReadFile.{if_some, if_both, any_bytes, opens_file, f
 not_zero : (n : ℕ) → 0 < n → (n == 0) ≡ false
 not_zero n h = grind (arith, nat_tests)
 
-judged : Bool → Bool → Bool → Bool → ℕ → Option SizesFlaw
-judged x y z many leaves =
+judged : Bool → Bool → Bool → Option SizesFlaw → Option SizesFlaw
+judged x y z later =
     if x then Some (ChunkZero 0)
     else (if y then Some (ChunkZero 1)
     else (if z then Some (ChunkZero 2)
-    else (if many then Some (TooManyLeaves leaves) else None)))
+    else later))
+
+-- a flaw that is not of a size of 0
+counted : Bool → ℕ → Option SizesFlaw
+counted many leaves = if many then Some (TooManyLeaves leaves) else None
 
 -- sizes that are not 0 have no flaw but too many leaves
 flaw_of_some : (axes : Axes) (chunk : List ℕ) → AreSomeSizes chunk → sizes_flaw axes chunk
-    ≡ (if nat_lt 262144 (cells_at (chunking axes chunk) 0) then Some (TooManyLeaves (cells_at (chunking axes chunk) 0)) else None)
-unfolding sizes_flaw judged
+    ≡ counted (nat_lt (2 ^ 18) (cells_at (chunking axes chunk) 0)) (cells_at (chunking axes chunk) 0)
+unfolding sizes_flaw judged counted
 flaw_of_some axes chunk some = λ i. judged (not_zero (slice_index chunk 0) some.x i) (not_zero (slice_index chunk 1) some.y i)
-    (not_zero (slice_index chunk 2) some.z i) (nat_lt 262144 (cells_at (chunking axes chunk) 0)) (cells_at (chunking axes chunk) 0)
+    (not_zero (slice_index chunk 2) some.z i) (counted (nat_lt (2 ^ 18) (cells_at (chunking axes chunk) 0)) (cells_at (chunking axes chunk) 0))
 
--- a test of the number of leaves, as a flaw and as a refusal
-as_flaw : Bool → ℕ → Option SizesFlaw
-as_flaw many leaves = if many then Some (TooManyLeaves leaves) else None
-
-as_refusal : Bool → ℕ → Option Refusal
-as_refusal many leaves = if many then Some (Leaves leaves) else None
-
-none_refused : (many : Bool) (leaves : ℕ) → as_flaw many leaves ≡ None → as_refusal many leaves ≡ None
-unfolding as_flaw as_refusal
-none_refused true leaves e = cc e
-none_refused false leaves e = refl
-
-same_refused : (many : Bool) (leaves n : ℕ) → as_flaw many leaves ≡ Some (TooManyLeaves n) → as_refusal many leaves ≡ Some (Leaves n)
-unfolding as_flaw as_refusal
-same_refused true leaves n e = let same : leaves ≡ n = cc e in ap (λ k. Some (Leaves k)) same
-same_refused false leaves n e = cc e
-
-never_zero : (many : Bool) (leaves axis : ℕ) → as_flaw many leaves ≡ Some (ChunkZero axis) → ⊥
-unfolding as_flaw
+never_zero : (many : Bool) (leaves axis : ℕ) → counted many leaves ≡ Some (ChunkZero axis) → ⊥
+unfolding counted
 never_zero true leaves axis e = cc e
 never_zero false leaves axis e = cc e
 
-refusal_is : (many : Bool) (leaves : ℕ) (refusal : Refusal) → as_refusal many leaves ≡ Some refusal → Leaves leaves ≡ refusal
-unfolding as_refusal
-refusal_is true leaves refusal e = cc e
-refusal_is false leaves refusal e = cc e
-
-lt_test : (n : ℕ) → 262144 < n → nat_lt 262144 n ≡ true
-lt_test n h = grind (arith, nat_tests)
-
-never_many : (many : Bool) (leaves : ℕ) → many ≡ true → as_refusal many leaves ≡ None → ⊥
-unfolding as_refusal
-never_many true leaves t e = cc e
-never_many false leaves t e = cc t
-
-few_since : (leaves : ℕ) → as_refusal (nat_lt 262144 leaves) leaves ≡ None → leaves ≤ 262144
-few_since leaves e = elim (cases_lt 262144 leaves) [
-  | inl more ↦ absurd (never_many (nat_lt 262144 leaves) leaves (lt_test leaves more) e)
-  | inr few ↦ few
-]
-
--- what a cutting answers is what the leaves are refused for
-pub not_refused : (axes : Axes) (chunk : List ℕ) → AreSomeSizes chunk → sizes_flaw axes chunk ≡ None → leaves_refusal axes chunk ≡ None
-unfolding as_flaw as_refusal
-not_refused axes chunk some e = none_refused (nat_lt 262144 (cells_at (chunking axes chunk) 0)) (cells_at (chunking axes chunk) 0)
-    (sym (flaw_of_some axes chunk some) ∙ e)
-
-pub too_many : (axes : Axes) (chunk : List ℕ) (fault : CutFault) (leaves : ℕ) → AreSomeSizes chunk → fault ≡ faults.TooManyLeaves leaves
-    → sizes_flaw axes chunk ≡ Some (flaw_of fault) → leaves_refusal axes chunk ≡ Some (Leaves leaves)
-unfolding as_flaw as_refusal
-too_many axes chunk fault leaves some is e =
-    same_refused (nat_lt 262144 (cells_at (chunking axes chunk) 0)) (cells_at (chunking axes chunk) 0) leaves
-    (sym (flaw_of_some axes chunk some) ∙ e ∙ ap (λ (f : CutFault). Some (flaw_of f)) is)
-
 pub no_zero : (axes : Axes) (chunk : List ℕ) (fault : CutFault) (axis : ℕ) → AreSomeSizes chunk → fault ≡ faults.ChunkZero axis
     → sizes_flaw axes chunk ≡ Some (flaw_of fault) → ⊥
-unfolding as_flaw
 no_zero axes chunk fault axis some is e =
-    never_zero (nat_lt 262144 (cells_at (chunking axes chunk) 0)) (cells_at (chunking axes chunk) 0) axis
+    never_zero (nat_lt (2 ^ 18) (cells_at (chunking axes chunk) 0)) (cells_at (chunking axes chunk) 0) axis
     (sym (flaw_of_some axes chunk some) ∙ e ∙ ap (λ (f : CutFault). Some (flaw_of f)) is)
 
-few_leaves : (axes : Axes) (chunk : List ℕ) → leaves_refusal axes chunk ≡ None → cells_at (chunking axes chunk) 0 ≤ 262144
-unfolding as_refusal
-few_leaves axes chunk e = few_since (cells_at (chunking axes chunk) 0) e
+-- what a cutting answers is what the leaves are refused for
+pub too_many : (axes : Axes) (chunk : List ℕ) (fault : CutFault) (leaves : ℕ) → fault ≡ faults.TooManyLeaves leaves
+    → sizes_flaw axes chunk ≡ Some (flaw_of fault) → leaves_refusal axes chunk ≡ Some (Leaves leaves)
+too_many axes chunk fault leaves is e = ap (option_and_then sizes_refusal) (e ∙ ap (λ (f : CutFault). Some (flaw_of f)) is)
 
-leaves_are : (axes : Axes) (chunk : List ℕ) (refusal : Refusal) → leaves_refusal axes chunk ≡ Some refusal
-    → Leaves (cells_at (chunking axes chunk) 0) ≡ refusal
-unfolding as_refusal
-leaves_are axes chunk refusal e = refusal_is (nat_lt 262144 (cells_at (chunking axes chunk) 0)) (cells_at (chunking axes chunk) 0) refusal e
+leaves_are : (flaw : Option SizesFlaw) (refusal : Refusal) → option_and_then sizes_refusal flaw ≡ Some refusal
+    → (leaves : ℕ) × (Leaves leaves ≡ refusal)
+leaves_are None refusal e = cc e
+leaves_are (Some (ChunkZero axis)) refusal e = cc e
+leaves_are (Some (TooManyLeaves leaves)) refusal e = (leaves, cc e)
+
+-- nothing was read yet
+pub refused_numbers : (axes : Axes) (chunk : List ℕ) (refusal : Refusal) (s : DeskState) → leaves_refusal axes chunk ≡ Some refusal
+    → RefusesNumbers (leaves_refusal axes chunk) refusal s s
+refused_numbers axes chunk refusal s e =
+    let are = leaves_are (sizes_flaw axes chunk) refusal e in
+    subst (λ (f : Refusal). RefusesNumbers (leaves_refusal axes chunk) f s s) are.1 (e ∙ ap (λ (f : Refusal). Some f) (sym are.1), refl)
 
 -- ---- a header with a flaw
 
@@ -160,9 +122,9 @@ many_leaves name chunk axes leaves s t u o r e = opens_file name _ s t u _ o
 pub refused_leaves : (name chunk : List ℕ) (axes : Axes) (refusal : Refusal) (s t u : DeskState) → OpensInput name s t → ReadsHead axes t u
     → leaves_refusal axes chunk ≡ Some refusal → RefusesInput (segment_refusal chunk) name refusal s u
 refused_leaves name chunk axes refusal s t u o r e =
-    let is = leaves_are axes chunk refusal e in
-    subst (λ (f : Refusal). RefusesInput (segment_refusal chunk) name f s u) is
-    (many_leaves name chunk axes (cells_at (chunking axes chunk) 0) s t u o r (e ∙ ap (λ (f : Refusal). Some f) (sym is)))
+    let are = leaves_are (sizes_flaw axes chunk) refusal e in
+    subst (λ (f : Refusal). RefusesInput (segment_refusal chunk) name f s u) are.1
+    (many_leaves name chunk axes are.0 s t u o r (e ∙ ap (λ (f : Refusal). Some f) (sym are.1)))
 
 -- ---- a body
 
@@ -207,5 +169,5 @@ pub reads_cut_volume : (name chunk : List ℕ) (axes : Axes) (volume : Grid) (cu
 reads_cut_volume name chunk axes volume cutting s t u v o r few is b = record {
   read = reads_volume name volume s t v o (whole_volume axes volume t u v r b);
   cutting_is = is ∙ ap (λ (a : Axes). chunking a chunk) (sym b.axes_are);
-  few_leaves = subst (λ (c : Chunking). cells_at c 0 ≤ 262144) (sym is) (few_leaves axes chunk few);
+  few_leaves = subst (λ (a : Axes). leaves_refusal a chunk ≡ None) (sym b.axes_are) few;
 }

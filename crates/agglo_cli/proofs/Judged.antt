@@ -1,21 +1,17 @@
--- What a run found is what the bytes of its input deserve: found sound, or found to have a flaw.
-use Rattle.std.proofs.Common.{◌≡◌, ◌≢◌, ℕ, ◌≤◌, nat_lt, Bool, true, false, ◌⊎◌, List, Option, Some, None, IsSome, IfSome, refl, sym, ap, subst, ◌∙◌, inl, inr, if◌then◌else◌, arith}
-use Rattle.std.specs.Option.{option_map, option_or, option_and_then}
-use Rattle.std.proofs.lemmas.Bool.Decides.{nat_tests}
+-- What a run found is what its task deserves: found sound, or found to have a flaw.
+use Rattle.std.proofs.Common.{◌≡◌, ℕ, ◌⊎◌, List, Option, Some, None, IfSome, refl, sym, ap, subst, ◌∙◌, inl, inr}
+use Rattle.std.specs.Option.{option_or}
 use Rattle.agglo_model.specs.Axes.{Axes}
 use Rattle.agglo_model.specs.Grid.{Grid}
-use Rattle.agglo_model.specs.Cutting.{chunking, cells_at, Chunking}
-use Rattle.agglo_model.specs.VolumeFile.{VolumeFlaw, header_axes, header_flaw, body, body_flaw, first_of_two, volume_flaw, volume_in}
-use Rattle.agglo_model.specs.TreeFile.{TreeFlaw, tree_flaw}
-use Rattle.command_words.specs.Words.{Task, Basins, Segment, Show, SegmentSettings}
-use Rattle.seg_io.specs.Desk.{DeskState, File, file_named}
+use Rattle.agglo_model.specs.Cutting.{Chunking}
+use Rattle.agglo_model.specs.VolumeFile.{VolumeFlaw, header_axes, header_flaw, body, body_flaw, first_of_two}
+use Rattle.command_words.specs.Words.{Task, Basins, Segment, Make, Trial, Show}
+use Rattle.seg_io.specs.Desk.{DeskState}
 use Rattle.refusals.specs.declared.refusal.Refusal.{Refusal}
-use Rattle.refusals.specs.declared.refusal.Refusal.TheVariants.{Leaves}
-use Rattle.refusals.specs.Refusal.{status_of}
-use Rattle.agglo_cli.specs.Answers.{IsVolumeFile, IsTreeFile, ReadsCutVolume, Finds, input_name}
-use Rattle.agglo_cli.specs.Flaws.{volume_flaw_refusal, tree_flaw_refusal, leaves_refusal, segment_refusal, input_refusal}
-use Rattle.agglo_cli.specs.Reading.{file_of, HasFile}
-use Rattle.agglo_cli.specs.Run.{NamesAFlawedFile, NamesAGoodFile}
+use Rattle.refusals.specs.declared.refusal.Refusal.TheVariants.{Memory, Words, Volume, Leaves, Input, Output, Tree}
+use Rattle.agglo_cli.specs.Answers.{IsVolumeFile, IsTreeFile, ReadsCutVolume, Finds}
+use Rattle.agglo_cli.specs.Flaws.{volume_flaw_refusal, tree_flaw_refusal, leaves_refusal, basins_refusal, segment_refusal, show_refusal, RefusesInput, RefusesNumbers, RefusesStart, IsJudgedFile, IsJudged, ComesFirst}
+use Rattle.agglo_cli.specs.Reading.{file_of}
 use Rattle.agglo_cli.specs.Writing.{Answer}
 use Rattle.agglo_cli.proofs.ReadFile.{if_some}
 
@@ -25,109 +21,85 @@ no_first : (first later : Option VolumeFlaw) → first_of_two first later ≡ No
 no_first None later e = (refl, e)
 no_first (Some flaw) later e = cc e
 
-not_many : (leaves : ℕ) → leaves ≤ 262144 → nat_lt 262144 leaves ≡ false
-not_many leaves h = grind (arith, nat_tests)
-
-few_refused : (axes : Axes) (chunk : List ℕ) → cells_at (chunking axes chunk) 0 ≤ 262144 → leaves_refusal axes chunk ≡ None
-few_refused axes chunk few = by_test (nat_lt 262144 (cells_at (chunking axes chunk) 0)) (not_many (cells_at (chunking axes chunk) 0) few)
-  where
-    by_test : (many : Bool) → many ≡ false → (if many then Some (Leaves (cells_at (chunking axes chunk) 0)) else None) ≡ None
-    by_test true e = cc e
-    by_test false e = refl
-
 sound_segment : (name chunk : List ℕ) (volume : Grid) (cutting : Chunking) (s t : DeskState) → ReadsCutVolume name chunk volume cutting s t
     → (bytes : List ℕ) → IsVolumeFile volume bytes → segment_refusal chunk bytes ≡ None
 sound_segment name chunk volume cutting s t r bytes v =
     let parts = no_first (header_flaw bytes) (body_flaw (header_axes bytes) (body bytes)) v.sound in
     let axes : volume.axes ≡ header_axes bytes = ap (λ (g : Grid). g.axes) v.says in
-    let few = few_refused (header_axes bytes) chunk
-    (subst (λ (a : Axes). cells_at (chunking a chunk) 0 ≤ 262144) axes (subst (λ (c : Chunking). cells_at c 0 ≤ 262144) r.cutting_is r.few_leaves)) in
+    let few = subst (λ (a : Axes). leaves_refusal a chunk ≡ None) axes r.few_leaves in
     λ i. option_or (volume_flaw_refusal (parts.0 i)) (option_or (few i) (volume_flaw_refusal (parts.1 i)))
 
-pub finds_sound : (task : Task) (answer : Answer) (s t : DeskState) → Finds task answer s t
-    → IfSome (file_of s (input_name task)) (λ bytes. input_refusal task bytes ≡ None)
-finds_sound (Basins settings) answer s t f = if_some _ _ _ (λ bytes (v : IsVolumeFile f.volume bytes). ap volume_flaw_refusal v.sound) f.read.opened.bytes
-finds_sound (Segment settings) answer s t f = if_some _ _ _
-    (sound_segment settings.volume settings.chunk f.volume f.cutting s t f.read) f.read.read.opened.bytes
-finds_sound (Show tree) answer s t f = if_some _ _ _ (λ bytes (v : IsTreeFile f.tree bytes). ap tree_flaw_refusal v.sound) f.read.opened.bytes
+-- a file of which something is known, and the cause that its bytes have
+of_told : (refusal_of : List ℕ → Option Refusal) (name : List ℕ) (cause told : Option Refusal) (s : DeskState)
+    → IfSome (file_of s name) (λ bytes. refusal_of bytes ≡ told) → IsJudgedFile refusal_of name cause s → cause ≡ told
+of_told refusal_of name cause told s h j =
+    sym j.judged ∙ subst (λ (o : Option (List ℕ)). IfSome o (λ bytes. refusal_of bytes ≡ told)) j.file h
 
-pub finds_file : (task : Task) (answer : Answer) (s t : DeskState) → Finds task answer s t → HasFile s (input_name task)
-finds_file (Basins settings) answer s t f = f.read.opened.found
-finds_file (Segment settings) answer s t f = f.read.read.opened.found
-finds_file (Show tree) answer s t f = f.read.opened.found
+pub finds_sound : (task : Task) (answer : Answer) (cause : Option Refusal) (s t : DeskState) → Finds task answer s t
+    → IsJudged task cause s → cause ≡ None
+finds_sound (Basins settings) answer cause s t f j = of_told basins_refusal settings.volume cause None s
+    (if_some _ _ _ (λ bytes (v : IsVolumeFile f.volume bytes). ap volume_flaw_refusal v.sound) f.read.opened.bytes) j
+finds_sound (Segment settings) answer cause s t f j = of_told (segment_refusal settings.chunk) settings.volume cause None s
+    (if_some _ _ _ (sound_segment settings.volume settings.chunk f.volume f.cutting s t f.read) f.read.read.opened.bytes) j
+finds_sound (Make settings) answer cause s t f j = sym j
+finds_sound (Trial settings) answer cause s t f j = sym j ∙ f.few_leaves
+finds_sound (Show tree) answer cause s t f j = of_told show_refusal tree cause None s
+    (if_some _ _ _ (λ bytes (v : IsTreeFile f.tree bytes). ap tree_flaw_refusal v.sound) f.read.opened.bytes) j
 
--- ---- two facts about the bytes of one file, where the desk tells it
+-- ---- what was found to have a flaw has no other
 
--- a claim that needs no file
-pub everywhere : (files : Option (List File)) (P : Type 0) → P → IfSome files (λ _. P)
-everywhere None P p = tt
-everywhere (Some fs) P p = p
+-- the refusal tells of a flaw, and not of a fault or of memory
+unfoldable pub TellsFlaw : Refusal → Type 0
+TellsFlaw Memory = ⊥
+TellsFlaw Words = ⊥
+TellsFlaw (Volume fault) = Unit {0}
+TellsFlaw (Leaves leaves) = Unit {0}
+TellsFlaw Input = ⊥
+TellsFlaw Output = ⊥
+TellsFlaw (Tree fault) = Unit {0}
 
-by_bytes : (o : Option (List ℕ)) (P Q : List ℕ → Type 0) (R : Type 0) → ((bytes : List ℕ) → P bytes → Q bytes → R) → IsSome o
-    → IfSome o P → IfSome o Q → R
-by_bytes None P Q R f some p q = absurd (none some)
-  where
-    none : IsSome {T = List ℕ} None → ⊥
-    none e = cc
-by_bytes (Some bytes) P Q R f some p q = f bytes p q
+of_file : (refusal_of : List ℕ → Option Refusal) (name : List ℕ) (refusal : Refusal) (cause : Option Refusal) (s t : DeskState)
+    → TellsFlaw refusal → RefusesInput refusal_of name refusal s t → IsJudgedFile refusal_of name cause s → cause ≡ Some refusal
+unfolding TellsFlaw
+of_file refusal_of name Memory cause s t flaw f j = absurd flaw
+of_file refusal_of name Words cause s t flaw f j = absurd flaw
+of_file refusal_of name (Volume fault) cause s t flaw f j = of_told refusal_of name cause _ s f.bytes j
+of_file refusal_of name (Leaves leaves) cause s t flaw f j = of_told refusal_of name cause _ s f.bytes j
+of_file refusal_of name Input cause s t flaw f j = absurd flaw
+of_file refusal_of name Output cause s t flaw f j = absurd flaw
+of_file refusal_of name (Tree fault) cause s t flaw f j = of_told refusal_of name cause _ s f.bytes j
 
-pub by_file : (name : List ℕ) (files : Option (List File)) (P Q : List ℕ → Type 0) (R : Type 0) → ((bytes : List ℕ) → P bytes → Q bytes → R)
-    → IfSome files (λ fs. IsSome (file_named fs name))
-    → IfSome (option_and_then (λ fs. file_named fs name) files) P
-    → IfSome (option_and_then (λ fs. file_named fs name) files) Q → IfSome files (λ _. R)
-by_file name None P Q R f found p q = tt
-by_file name (Some fs) P Q R f found p q = by_bytes (file_named fs name) P Q R f found p q
+of_numbers : (told cause : Option Refusal) (refusal : Refusal) (s t : DeskState) → TellsFlaw refusal → RefusesNumbers told refusal s t
+    → told ≡ cause → cause ≡ Some refusal
+unfolding TellsFlaw
+of_numbers told cause Memory s t flaw f j = absurd flaw
+of_numbers told cause Words s t flaw f j = absurd flaw
+of_numbers told cause (Volume fault) s t flaw f j = absurd f
+of_numbers told cause (Leaves leaves) s t flaw f j = sym j ∙ f.0
+of_numbers told cause Input s t flaw f j = absurd flaw
+of_numbers told cause Output s t flaw f j = absurd flaw
+of_numbers told cause (Tree fault) s t flaw f j = absurd f
 
--- one cause at most
-same_cause : (o : Option Refusal) (a b : Refusal) → o ≡ Some a → o ≡ Some b → a ≡ b
-same_cause o a b e f = by (sym e ∙ f)
-  where
-    by : Some a ≡ Some b → a ≡ b
-    by e = cc e
+pub one_cause : (task : Task) (refusal : Refusal) (cause : Option Refusal) (s t : DeskState) → TellsFlaw refusal
+    → RefusesStart task refusal s t → IsJudged task cause s → cause ≡ Some refusal
+one_cause (Basins settings) refusal cause s t flaw f j = of_file basins_refusal settings.volume refusal cause s t flaw f j
+one_cause (Segment settings) refusal cause s t flaw f j = of_file (segment_refusal settings.chunk) settings.volume refusal cause s t flaw f j
+one_cause (Make settings) refusal cause s t flaw f j = of_numbers None cause refusal s t flaw f j
+one_cause (Trial settings) refusal cause s t flaw f j = of_numbers (leaves_refusal settings.axes settings.chunk) cause refusal s t flaw f j
+one_cause (Show tree) refusal cause s t flaw f j = of_file show_refusal tree refusal cause s t flaw f j
 
-no_cause : (o : Option Refusal) (a : Refusal) → o ≡ None → o ≡ Some a → ⊥
-no_cause o a e f = by (sym e ∙ f)
-  where
-    by : {R : Type 0} {x : R} → None ≡ Some x → ⊥
-    by e = cc e
+-- ---- what may come in the place of a flaw
 
--- ---- an input that has a flaw
+pub memory_first : (task : Task) → ComesFirst task 1
+memory_first (Basins settings) = inl refl
+memory_first (Segment settings) = inl refl
+memory_first (Make settings) = refl
+memory_first (Trial settings) = refl
+memory_first (Show tree) = inl refl
 
--- the task of the words alone has the flaw
-pub flaw_of_task : (words : List (List ℕ)) (task : Task) (status : ℕ) (s : DeskState) → (n : NamesAFlawedFile words status s)
-    → n.task ≡ task → (refusal : Refusal) × (status ≡ status_of refusal) × HasFile s (input_name task)
-    × IfSome (file_of s (input_name task)) (λ bytes. input_refusal task bytes ≡ Some refusal)
-flaw_of_task words task status s n e = (
-  n.refusal,
-  n.status_is,
-  subst (λ (t : Task). HasFile s (input_name t)) e n.found,
-  subst (λ (t : Task). IfSome (file_of s (input_name t)) (λ bytes. input_refusal t bytes ≡ Some n.refusal)) e n.flawed,
-)
-
--- a file that was found sound has no flaw
-pub sound_not_flawed : (words : List (List ℕ)) (task : Task) (answer : Answer) (status : ℕ) (s t : DeskState) (P : Type 0)
-    → Finds task answer s t → (n : NamesAFlawedFile words status s) → n.task ≡ task → IfSome s.files (λ _. P)
-sound_not_flawed words task answer status s t P f n e =
-    let flaw = flaw_of_task words task status s n e in
-    by_file (input_name task) s.files _ _ P (λ bytes sound flawed. absurd (no_cause (input_refusal task bytes) flaw.0 sound flawed))
-    flaw.2 (finds_sound task answer s t f) flaw.3
-
--- a file that was found to have a flaw has no other
-pub one_flaw : (words : List (List ℕ)) (task : Task) (refusal : Refusal) (status : ℕ) (s : DeskState)
-    → IfSome (file_of s (input_name task)) (λ bytes. input_refusal task bytes ≡ Some refusal)
-    → (n : NamesAFlawedFile words status s) → n.task ≡ task → IfSome s.files (λ _. status_of refusal ≡ status)
-one_flaw words task refusal status s found n e =
-    let flaw = flaw_of_task words task status s n e in
-    by_file (input_name task) s.files _ _ _
-    (λ bytes here flawed. ap status_of (same_cause (input_refusal task bytes) refusal flaw.0 here flawed) ∙ sym flaw.1)
-    flaw.2 found flaw.3
-
--- a good file has none
-pub good_not_flawed : (words : List (List ℕ)) (task : Task) (refusal : Refusal) (s : DeskState)
-    → IfSome (file_of s (input_name task)) (λ bytes. input_refusal task bytes ≡ Some refusal)
-    → (n : NamesAGoodFile words s) → n.task ≡ task → ⊥
-good_not_flawed words task refusal s found n e =
-    let file : file_of s (input_name task) ≡ Some n.bytes = subst (λ (t : Task). file_of s (input_name t) ≡ Some n.bytes) e n.file in
-    let sound : input_refusal task n.bytes ≡ None = subst (λ (t : Task). input_refusal t n.bytes ≡ None) e n.sound in
-    no_cause (input_refusal task n.bytes) refusal sound
-    (subst (λ (o : Option (List ℕ)). IfSome o (λ bytes. input_refusal task bytes ≡ Some refusal)) file found)
+pub fault_first : (task : Task) (s t : DeskState) → RefusesStart task Input s t → ComesFirst task 5
+fault_first (Basins settings) s t f = inr refl
+fault_first (Segment settings) s t f = inr refl
+fault_first (Make settings) s t f = absurd f
+fault_first (Trial settings) s t f = absurd f
+fault_first (Show tree) s t f = inr refl

@@ -1,27 +1,32 @@
--- What a segmentation writes: its merges are lawful, and its answer is in the words of the headline.
-use Rattle.std.proofs.Common.{◌≡◌, ℕ, suc, zero, ◌+◌, ◌*◌, ◌<◌, ◌≤◌, All, List, [], ◌∷◌, get_or, slice_index, length, ◌++◌, Option, Some, IfSome, refl, sym, ap, subst, ◌∙◌, arith}
+-- What a segmentation writes: its merges are lawful, and its answer is in the words of the headline. What is written
+-- of a generated volume.
+use Rattle.std.proofs.Common.{◌≡◌, ℕ, suc, zero, ◌+◌, ◌*◌, ◌<◌, ◌≤◌, All, List, [], ◌∷◌, get_or, slice_index, length, ◌++◌, Option, Some, None, IfSome, refl, sym, ap, subst, ◌∙◌, arith}
 use Rattle.std.proofs.lemmas.List.{get_or_default}
 use Rattle.agglo_model.specs.Axes.{Axes, IsWithinLimits, voxel_count}
 use Rattle.agglo_model.specs.Basins.{AreBasins, label_of}
-use Rattle.agglo_model.specs.Cutting.{Chunking}
+use Rattle.agglo_model.specs.Cutting.{Chunking, chunking}
+use Rattle.agglo_model.specs.Generated.{generated_volume}
 use Rattle.agglo_model.specs.Grid.{Grid, IsWhole}
 use Rattle.agglo_model.specs.Greedy.{Merge, after_merges}
 use Rattle.agglo_model.specs.LabelFile.{label_file}
 use Rattle.agglo_model.specs.Laws.{LabelsAreBounded}
 use Rattle.agglo_model.specs.MergeLaws.{GreedyIsLawful}
 use Rattle.agglo_model.specs.MergeTree.{AreLawful, tree_file}
+use Rattle.agglo_model.specs.Note.{make_note}
 use Rattle.agglo_model.specs.PairOrder.{Threshold}
 use Rattle.agglo_model.specs.Report.{Level, report}
 use Rattle.agglo_model.specs.Segmentation.{IsSegmentation}
 use Rattle.agglo_model.specs.TreeFile.{MergeTree, tree_bytes}
-use Rattle.command_words.specs.Words.{SegmentSettings}
-use Rattle.seg_io.specs.Desk.{DeskState, Opened}
-use Rattle.seg_io.specs.declared.port.Port.TheVariants.{Labels, Tree}
-use Rattle.agglo_cli.specs.Answers.{segment_answer, FindsSegmentation}
-use Rattle.agglo_cli.specs.Headline.{IsAgglomerated}
+use Rattle.agglo_model.specs.VolumeFile.{volume_bytes}
+use Rattle.command_words.specs.Words.{SegmentSettings, MakeSettings, TrialSettings}
+use Rattle.seg_io.specs.Desk.{DeskState, Opened, appended}
+use Rattle.seg_io.specs.declared.port.Port.TheVariants.{Labels, Tree, Volume, Note}
+use Rattle.agglo_cli.specs.Answers.{segment_answer, make_answer, FindsSegmentation, FindsVolume, FindsTrial}
+use Rattle.agglo_cli.specs.Flaws.{leaves_refusal}
+use Rattle.agglo_cli.specs.Headline.{IsAgglomerated, IsMade, IsTried}
 use Rattle.agglo_cli.specs.Reading.{file_of}
 use Rattle.agglo_cli.specs.Writing.{Answer, WritesAll}
-use Rattle.agglo_cli.proofs.Written.{AreFiles, IsFilePort, holds_two, files_keep}
+use Rattle.agglo_cli.proofs.Written.{AreFiles, IsFilePort, holds_two, holds_volume, files_keep}
 
 -- ---- the merges are lawful
 
@@ -98,4 +103,59 @@ agglomerated settings answer s m t f w =
       tree = two.tree_is;
       opened = two.opened ∙ ap (λ (o : List Opened). o ++ record { port = Labels; name = settings.labels } ∷ record { port = Tree; name = settings.tree } ∷ [])
           (ap (λ (z : DeskState). z.opened) f.read.read.opened.after);
+    }
+
+-- ---- generated volumes
+
+-- what was written of a volume is the answer for the one that is generated
+pub made_answer : (settings : MakeSettings) (volume : Grid) (note : List ℕ) → volume ≡ generated_volume settings.start settings.axes
+    → note ≡ make_note (voxel_count settings.axes)
+    → record { outputs = record { port = Volume; name = settings.volume; bytes = volume_bytes volume } ∷ []; note = note } ≡ make_answer settings
+made_answer settings volume note e f = λ i. record {
+  outputs = record { port = Volume; name = settings.volume; bytes = volume_bytes (e i) } ∷ [];
+  note = f i;
+}
+
+pub made : (settings : MakeSettings) (answer : Answer) (s m t : DeskState) → FindsVolume settings answer s m → WritesAll answer m t
+    → IsMade settings s t
+made settings answer s m t f w =
+    let w' = subst (λ (u : DeskState). WritesAll answer u t) f.after w in
+    let held = holds_volume settings.volume (volume_bytes (generated_volume settings.start settings.axes))
+    (make_note (voxel_count settings.axes)) s t (subst (λ (a : Answer). WritesAll a s t) f.answer_is w') in
+    record { volume = held.volume_is; note = held.note_is; opened = held.opened }
+
+-- the segmentation of a volume and a cutting is that of the ones that the settings say
+pub found_trial : (settings : TrialSettings) (volume : Grid) (cutting : Chunking) (axes : Axes) (labels : List ℕ) (basins : ℕ)
+    (merges : List Merge) (levels : List Level) (note : List ℕ) (s : DeskState)
+    → volume ≡ generated_volume settings.start settings.axes → cutting ≡ chunking settings.axes settings.chunk
+    → leaves_refusal settings.axes settings.chunk ≡ None → axes ≡ volume.axes
+    → IsSegmentation volume settings.low settings.threshold cutting labels basins merges levels
+    → note ≡ report (voxel_count axes) basins (length merges) levels
+    → FindsTrial settings (record { outputs = []; note = note }) s s
+found_trial settings volume cutting axes labels basins merges levels note s v c few a seg e = record {
+  few_leaves = few;
+  labels = labels;
+  basins = basins;
+  merges = merges;
+  levels = levels;
+  segmentation = subst (λ (k : Chunking). IsSegmentation (generated_volume settings.start settings.axes) settings.low settings.threshold k labels basins merges levels) c
+      (subst (λ (g : Grid). IsSegmentation g settings.low settings.threshold cutting labels basins merges levels) v seg);
+  answer_is = ap (λ (n : List ℕ). record { outputs = []; note = n })
+      (e ∙ ap (λ (x : Axes). report (voxel_count x) basins (length merges) levels) (a ∙ ap (λ (g : Grid). g.axes) v));
+  after = refl;
+}
+
+pub tried : (settings : TrialSettings) (answer : Answer) (s m t : DeskState) → FindsTrial settings answer s m → WritesAll answer m t
+    → IsTried settings s t
+tried settings answer s m t f w =
+    let w' = subst (λ (u : DeskState). WritesAll answer u t) f.after w in
+    record {
+      basins = f.segmentation.start;
+      basins_are = f.segmentation.basins_are;
+      merges = f.merges;
+      greedy = f.segmentation.greedy;
+      levels = f.levels;
+      levels_are = f.segmentation.levels_are;
+      note = subst (λ (a : Answer). WritesAll a s t) f.answer_is w'
+          ∙ ap (λ (n : ℕ). appended Note (report (voxel_count settings.axes) n (length f.merges) f.levels) s) f.segmentation.basins_count;
     }

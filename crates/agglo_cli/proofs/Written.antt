@@ -31,6 +31,9 @@ labels_are_open name s t o = subst (IsListed Labels) (sym (ap (λ (z : DeskState
 pub tree_is_open : (name : List ℕ) (s t : DeskState) → OpensOutput Tree name s t → IsListed Tree t.opened
 tree_is_open name s t o = subst (IsListed Tree) (sym (ap (λ (z : DeskState). z.opened) o.after)) (listed_last Tree s.opened name)
 
+pub volume_is_open : (name : List ℕ) (s t : DeskState) → OpensOutput Volume name s t → IsListed Volume t.opened
+volume_is_open name s t o = subst (IsListed Volume) (sym (ap (λ (z : DeskState). z.opened) o.after)) (listed_last Volume s.opened name)
+
 -- the label file
 abbrev labels_output : List ℕ → List ℕ → Output
 labels_output name bytes = record { port = Labels; name = name; bytes = bytes }
@@ -218,6 +221,27 @@ holds_two labels_name tree_name labels tree note s t (m, first, (n, second, e)) 
   opened = ap (λ (z : DeskState). z.opened) e ∙ opened_by_tree tree_name tree m n second
       ∙ ap (λ (o : List Opened). o ++ record { port = Tree; name = tree_name } ∷ []) (opened_by_labels labels_name labels s m first)
       ∙ append_assoc s.opened (record { port = Labels; name = labels_name } ∷ []) (record { port = Tree; name = tree_name } ∷ []);
+}
+
+-- ---- what a generated volume leaves
+
+abbrev volume_output : List ℕ → List ℕ → Output
+volume_output name bytes = record { port = Volume; name = name; bytes = bytes }
+
+pub record HoldsVolume (name bytes note : List ℕ) (s t : DeskState) : Type 0 where
+  pub volume_is : IfSome t.volume (λ written. written ≡ bytes)
+  pub note_is : t.note ≡ option_map (λ written. written ++ note) s.note
+  pub opened : t.opened ≡ s.opened ++ record { port = Volume; name = name } ∷ []
+
+pub holds_volume : (name bytes note : List ℕ) (s t : DeskState) → WritesFiles (volume_output name bytes ∷ []) note s t
+    → HoldsVolume name bytes note s t
+holds_volume name bytes note s t (m, w, e) = record {
+  volume_is = subst (λ (o : Option (List ℕ)). IfSome o (λ b. b ≡ bytes))
+      (sym (ap (λ (z : DeskState). z.volume) e ∙ ap (λ (z : DeskState). z.volume) w.wrote))
+      (only_these w.begun.volume bytes w.opened.empty);
+  note_is = ap (λ (z : DeskState). z.note) e ∙ ap (option_map (λ (written : List ℕ). written ++ note))
+      (ap (λ (z : DeskState). z.note) w.wrote ∙ ap (λ (z : DeskState). z.note) w.opened.after);
+  opened = ap (λ (z : DeskState). z.opened) e ∙ ap (λ (z : DeskState). z.opened) w.wrote ∙ ap (λ (z : DeskState). z.opened) w.opened.after;
 }
 
 -- ---- the note after two files

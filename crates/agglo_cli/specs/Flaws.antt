@@ -1,17 +1,17 @@
--- Why the bytes of an input are refused.
-use Rattle.std.specs.Prelude.{◌≡◌, ℕ, nat_lt, if◌then◌else◌, List, Option, Some, None}
-use Rattle.std.specs.Option.{option_map, option_or}
+-- Why a task is refused before anything is written.
+use Rattle.std.specs.Prelude.{◌≡◌, ℕ, ◌⊎◌, List, Option, Some, None}
+use Rattle.std.specs.Option.{option_map, option_and_then, option_or}
 use Rattle.agglo_model.specs.Axes.{Axes}
-use Rattle.agglo_model.specs.Cutting.{chunking, cells_at}
+use Rattle.agglo_model.specs.Cutting.{SizesFlaw, ChunkZero, TooManyLeaves, sizes_flaw}
 use Rattle.agglo_model.specs.TreeFile.{TreeFlaw, tree_flaw}
 use Rattle.agglo_model.specs.VolumeFile.{VolumeFlaw, header_axes, header_flaw, body, body_flaw, volume_flaw}
-use Rattle.command_words.specs.Words.{Task, Basins, Segment, Show}
+use Rattle.command_words.specs.Words.{Task, Basins, Segment, Make, Trial, Show}
 use Rattle.volume_file.specs.Fault.{fault_of}
 use Rattle.merge_tree.specs.TreeFault.{fault_of as tree_fault_of}
 use Rattle.seg_io.specs.Desk.{DeskState}
 use Rattle.refusals.specs.declared.refusal.Refusal.{Refusal}
 use Rattle.refusals.specs.declared.refusal.Refusal.TheVariants.{Memory, Words, Volume, Leaves, Input, Output, Tree}
-use Rattle.agglo_cli.specs.Reading.{OpensFile, FailsToReadFile}
+use Rattle.agglo_cli.specs.Reading.{OpensFile, FailsToReadFile, HasFile, file_of}
 
 abbrev pub volume_flaw_refusal : Option VolumeFlaw → Option Refusal
 volume_flaw_refusal flaw = option_map (λ f. Volume (fault_of f)) flaw
@@ -19,11 +19,14 @@ volume_flaw_refusal flaw = option_map (λ f. Volume (fault_of f)) flaw
 abbrev pub tree_flaw_refusal : Option TreeFlaw → Option Refusal
 tree_flaw_refusal flaw = option_map (λ f. Tree (tree_fault_of f)) flaw
 
+-- Sizes of leaves are refused where there are too many leaves. Words spell no size of 0.
+abbrev pub sizes_refusal : SizesFlaw → Option Refusal
+sizes_refusal (ChunkZero axis) = None
+sizes_refusal (TooManyLeaves leaves) = Some (Leaves leaves)
+
 -- more leaves than a cutting may have
 abbrev pub leaves_refusal : Axes → List ℕ → Option Refusal
-leaves_refusal axes chunk =
-    let leaves = cells_at (chunking axes chunk) 0 in
-    if nat_lt 262144 leaves then Some (Leaves leaves) else None
+leaves_refusal axes chunk = option_and_then sizes_refusal (sizes_flaw axes chunk)
 
 -- why bytes are no volume
 abbrev pub basins_refusal : List ℕ → Option Refusal
@@ -41,12 +44,6 @@ segment_refusal chunk bytes =
 abbrev pub show_refusal : List ℕ → Option Refusal
 show_refusal bytes = tree_flaw_refusal (tree_flaw bytes)
 
--- The first cause that holds of the bytes of a task's input; none where they are an input for the task.
-abbrev pub input_refusal : Task → List ℕ → Option Refusal
-input_refusal (Basins settings) bytes = basins_refusal bytes
-input_refusal (Segment settings) bytes = segment_refusal settings.chunk bytes
-input_refusal (Show tree) bytes = show_refusal bytes
-
 -- The input of this name was not read, for this cause. What is wrong with bytes is told by `refusal_of`.
 abbrev pub RefusesInput : (List ℕ → Option Refusal) → List ℕ → Refusal → DeskState → DeskState → Type 0
 RefusesInput refusal_of name Memory old new = OpensFile name (λ _. Unit {0}) old new
@@ -56,3 +53,54 @@ RefusesInput refusal_of name (Leaves leaves) old new = OpensFile name (λ bytes.
 RefusesInput refusal_of name Input old new = FailsToReadFile name old new
 RefusesInput refusal_of name Output old new = ⊥
 RefusesInput refusal_of name (Tree fault) old new = OpensFile name (λ bytes. refusal_of bytes ≡ Some (Tree fault)) old new
+
+-- Nothing is read, and the run ended for this cause: want of memory, or too many leaves as `cause` says.
+abbrev pub RefusesNumbers : Option Refusal → Refusal → DeskState → DeskState → Type 0
+RefusesNumbers cause Memory old new = new ≡ old
+RefusesNumbers cause Words old new = ⊥
+RefusesNumbers cause (Volume fault) old new = ⊥
+RefusesNumbers cause (Leaves leaves) old new = (cause ≡ Some (Leaves leaves)) × (new ≡ old)
+RefusesNumbers cause Input old new = ⊥
+RefusesNumbers cause Output old new = ⊥
+RefusesNumbers cause (Tree fault) old new = ⊥
+
+-- The task ended for this cause before its answer was known.
+abbrev pub RefusesStart : Task → Refusal → DeskState → DeskState → Type 0
+RefusesStart (Basins settings) refusal old new = RefusesInput basins_refusal settings.volume refusal old new
+RefusesStart (Segment settings) refusal old new = RefusesInput (segment_refusal settings.chunk) settings.volume refusal old new
+RefusesStart (Make settings) refusal old new = RefusesNumbers None refusal old new
+RefusesStart (Trial settings) refusal old new = RefusesNumbers (leaves_refusal settings.axes settings.chunk) refusal old new
+RefusesStart (Show tree) refusal old new = RefusesInput show_refusal tree refusal old new
+
+-- ---- what a task deserves
+
+-- The desk tells the file of this name, and this is the first cause that holds of its bytes, or there is none.
+pub record IsJudgedFile (refusal_of : List ℕ → Option Refusal) (name : List ℕ) (cause : Option Refusal) (s : DeskState) : Type 0 where
+  pub bytes : List ℕ
+  pub file : file_of s name ≡ Some bytes
+  pub judged : refusal_of bytes ≡ cause
+
+-- What the task starts from is told, by the desk or by its words alone, and this is the first cause for which it
+-- is refused, or there is none.
+abbrev pub IsJudged : Task → Option Refusal → DeskState → Type 0
+IsJudged (Basins settings) cause s = IsJudgedFile basins_refusal settings.volume cause s
+IsJudged (Segment settings) cause s = IsJudgedFile (segment_refusal settings.chunk) settings.volume cause s
+IsJudged (Make settings) cause s = None ≡ cause
+IsJudged (Trial settings) cause s = leaves_refusal settings.axes settings.chunk ≡ cause
+IsJudged (Show tree) cause s = IsJudgedFile show_refusal tree cause s
+
+-- Where the desk tells its files, it has the one that the task reads, if it reads one.
+abbrev pub HasInput : DeskState → Task → Type 0
+HasInput s (Basins settings) = HasFile s settings.volume
+HasInput s (Segment settings) = HasFile s settings.volume
+HasInput s (Make settings) = Unit {0}
+HasInput s (Trial settings) = Unit {0}
+HasInput s (Show tree) = HasFile s tree
+
+-- The status may come in the place of that of a flaw: want of memory, and where a file is read, a fault of the input.
+abbrev pub ComesFirst : Task → ℕ → Type 0
+ComesFirst (Basins settings) status = (status ≡ 1) ⊎ (status ≡ 5)
+ComesFirst (Segment settings) status = (status ≡ 1) ⊎ (status ≡ 5)
+ComesFirst (Make settings) status = status ≡ 1
+ComesFirst (Trial settings) status = status ≡ 1
+ComesFirst (Show tree) status = (status ≡ 1) ⊎ (status ≡ 5)

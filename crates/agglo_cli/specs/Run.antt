@@ -1,15 +1,14 @@
 -- What a run of the program does, by its status.
-use Rattle.std.specs.Prelude.{◌≡◌, ℕ, ◌⊎◌, List, Option, Some, None, IfSome}
-use Rattle.command_words.specs.Words.{Task, Basins, Segment, Show, Spells, AreNoSettings}
+use Rattle.std.specs.Prelude.{◌≡◌, ℕ, ◌⊎◌, List, Some, None}
+use Rattle.command_words.specs.Words.{Task, Spells, AreNoSettings}
 use Rattle.seg_io.specs.Desk.{DeskState, CanOpen, appended, FailsAfterWriting}
 use Rattle.seg_io.specs.declared.port.Port.TheVariants.{Labels, Tree as TreePort, Volume as VolumePort, Trouble}
 use Rattle.refusals.specs.declared.refusal.Refusal.{Refusal}
 use Rattle.refusals.specs.declared.refusal.Refusal.TheVariants.{Memory, Words, Volume, Leaves, Input, Output, Tree}
 use Rattle.refusals.specs.Refusal.{status_of, line_of}
-use Rattle.agglo_cli.specs.Reading.{file_of, HasFile}
 use Rattle.agglo_cli.specs.Writing.{Answer, WritesAll, StopsWriting}
-use Rattle.agglo_cli.specs.Answers.{input_name, Finds}
-use Rattle.agglo_cli.specs.Flaws.{input_refusal, RefusesInput}
+use Rattle.agglo_cli.specs.Answers.{Finds}
+use Rattle.agglo_cli.specs.Flaws.{RefusesStart, IsJudged}
 
 -- the three ports that can be opened are not open
 pub record IsFresh (s : DeskState) : Type 0 where
@@ -34,7 +33,7 @@ pub record StopsTask (task : Task) (old new : DeskState) : Type 0 where
 -- the task ended for this cause
 abbrev pub RefusesTask : Task → Refusal → DeskState → DeskState → Type 0
 RefusesTask task Output old new = StopsTask task old new
-RefusesTask task refusal old new = RefusesInput (input_refusal task) (input_name task) refusal old new
+RefusesTask task refusal old new = RefusesStart task refusal old new
 
 -- the words spell a task, and it ended for this cause
 pub record RefusesSettings (words : List (List ℕ)) (refusal : Refusal) (old new : DeskState) : Type 0 where
@@ -79,22 +78,19 @@ pub record Refuses (words : List (List ℕ)) (status : ℕ) (old new : DeskState
   pub refused : RefusesRun words refusal old mid
   pub told : Told refusal mid new
 
--- The words are settings, and the file that they name has a flaw of this status, where the desk tells it.
-pub record NamesAFlawedFile (words : List (List ℕ)) (status : ℕ) (s : DeskState) : Type 0 where
+-- The words are settings, and what they name has a flaw of this status, as far as the desk tells it.
+pub record NamesAFlawedInput (words : List (List ℕ)) (status : ℕ) (s : DeskState) : Type 0 where
   pub task : Task
   pub spelled : Spells words task
-  pub found : HasFile s (input_name task)
   pub refusal : Refusal
   pub status_is : status ≡ status_of refusal
-  pub flawed : IfSome (file_of s (input_name task)) (λ bytes. input_refusal task bytes ≡ Some refusal)
+  pub flawed : IsJudged task (Some refusal) s
 
--- The words are settings, and the desk tells a file of the name that they give, with nothing to refuse.
-pub record NamesAGoodFile (words : List (List ℕ)) (s : DeskState) : Type 0 where
+-- The words are settings, and what they name is told and has nothing to refuse.
+pub record NamesAGoodInput (words : List (List ℕ)) (s : DeskState) : Type 0 where
   pub task : Task
   pub spelled : Spells words task
-  pub bytes : List ℕ
-  pub file : file_of s (input_name task) ≡ Some bytes
-  pub sound : input_refusal task bytes ≡ None
+  pub sound : IsJudged task None s
 
 -- nothing changed but the input and the port Trouble
 abbrev pub WritesNothing : DeskState → DeskState → Type 0

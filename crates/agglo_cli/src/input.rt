@@ -56,7 +56,7 @@ pub fn read_cut_volume<D: Desk>(
 }
 
 /// The cutting into leaves of these sizes, unless there are too many.
-fn cut(dims: &Dims, chunk: [u32; 3]) -> Result<Cutting, Refusal>
+pub fn cut(dims: &Dims, chunk: [u32; 3]) -> Result<Cutting, Refusal>
     requires { AreSomeSizes chunk }
     ensures { MatchResult result
         (λ cutting. (leaves_refusal dims.now chunk ≡ None) × (cutting ≡ chunking dims.now chunk))

@@ -16,6 +16,7 @@ mod top_call;
 use crate::file_desk::FileDesk;
 use crate::top_call::{agglo, refuse};
 use refusals::Refusal;
+use segment_run::Open;
 use std::alloc::Global;
 use std::process::ExitCode;
 use std::rt::Env;
@@ -26,7 +27,7 @@ fn main(rt: HostRuntime) -> ExitCode {
     let alloc = rt.alloc();
     let mut desk = FileDesk::new(rt, alloc);
     match program_words(&rt, alloc) {
-        Ok(words) => ExitCode::from(agglo(&rt, alloc, &words, &mut desk)),
+        Ok(words) => ExitCode::from(agglo(&rt, alloc, &words, &mut desk, &Open)),
         Err(fault) if fault.kind() == io::ErrorKind::OutOfMemory => {
             ExitCode::from(refuse(&mut desk, &Refusal::Memory))
         }

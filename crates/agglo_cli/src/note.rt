@@ -3,11 +3,11 @@ ghost use Rattle.std.specs.List.{range_with_len};
 ghost use Rattle.agglo_model.specs.Axes.{voxel_count};
 ghost use Rattle.agglo_model.specs.Grid.{Grid};
 ghost use Rattle.agglo_model.specs.Basins.{AreBasins, foreground, names};
-ghost use Rattle.agglo_model.specs.Note.{basins_note};
+ghost use Rattle.agglo_model.specs.Note.{basins_note, make_note};
 
 use agglo_model::Memory;
-use agglo_model::laws::counted_names;
-use seg_base::Labels;
+use seg_base::{Dims, Labels};
+use segment_run::count_basins;
 use std::alloc::Global;
 
 /// The note on basin labels: how many voxels there are, how many are foreground, and how many
@@ -18,7 +18,7 @@ pub fn basins_note(alloc: Global, labels: &Labels) -> Result<String, Memory>
 {
     let voxels = labels.dims().voxels();
     let foreground = count_foreground(labels.list());
-    let basins = count_basins(labels.list());
+    let basins = count_basins(labels);
     let note = format!(in alloc; "voxels {voxels}\nforeground {foreground}\nbasins {basins}\n")?;
     Ok(note)
 }
@@ -30,17 +30,11 @@ fn count_foreground(labels: &[u32]) -> usize
     labels.iter().filter(|&&label| label > 0).count()
 }
 
-/// How many basins there are: a basin has the name of one of its voxels, the number of it plus 1.
-fn count_basins(labels: &[u32]) -> usize
-    requires { (g : Grid) × (low : ℕ) × AreBasins g low labels.now }
-    ensures { result ≡ length (names labels.now) }
+/// The note on a volume that was generated.
+pub fn make_note(alloc: Global, dims: &Dims) -> Result<String, Memory>
+    ensures { IfOk result (λ note. string_bytes note ≡ make_note (voxel_count dims.now)) }
 {
-    counted_names();
-    let mut basins: usize = 0;
-    for v in 0..labels.len() {
-        if labels[v] as usize == v + 1 {
-            basins += 1;
-        }
-    }
-    basins
+    let voxels = dims.voxels();
+    let note = format!(in alloc; "voxels {voxels}\n")?;
+    Ok(note)
 }

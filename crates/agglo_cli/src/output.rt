@@ -1,13 +1,15 @@
 ghost use Rattle.std.specs.Prelude.{◌≡◌, ◌∷◌, [], MatchResult, length};
 ghost use Rattle.agglo_model.specs.LabelFile.{label_file};
 ghost use Rattle.agglo_model.specs.TreeFile.{tree_bytes};
+ghost use Rattle.agglo_model.specs.VolumeFile.{volume_bytes};
 ghost use Rattle.seg_io.specs.Desk.{CanOpen, FailsToOpenOutput};
-ghost use Rattle.seg_io.specs.declared.port.Port.TheVariants.{Labels as LabelsPort, Tree as TreePort};
+ghost use Rattle.seg_io.specs.declared.port.Port.TheVariants.{Labels as LabelsPort, Tree as TreePort, Volume as VolumePort};
 ghost use Rattle.agglo_cli.specs.Writing.{WritesFile, CutsFile, WritesFiles, FailsInFiles, FailsInFile};
 
 use merge_tree::{Tree, put_labels, put_tree};
 use seg_base::Labels;
 use seg_io::{Desk, Failed, Port, put_all};
+use volume_file::{Volume, write_volume};
 
 /// Opens the port Labels under this name and writes the label file on it.
 fn write_labels<D: Desk>(desk: &mut D, name: &str, labels: &Labels) -> Result<(), Failed>
@@ -29,6 +31,17 @@ fn write_tree<D: Desk>(desk: &mut D, name: &str, tree: &Tree) -> Result<(), Fail
 {
     desk.open_out(Port::Tree, name)?;
     put_tree(desk, tree)
+}
+
+/// Opens the port Volume under this name and writes the volume file on it.
+fn write_volume_file<D: Desk>(desk: &mut D, name: &str, volume: &Volume) -> Result<(), Failed>
+    requires { CanOpen VolumePort (D.state desk.old) }
+    ensures { MatchResult result
+        (λ _. WritesFile (record { port = VolumePort; name = name.now; bytes = volume_bytes volume.now }) (D.state desk.old) (D.state desk.new))
+        (λ _. FailsInFile (record { port = VolumePort; name = name.now; bytes = volume_bytes volume.now }) (D.state desk.old) (D.state desk.new)) }
+{
+    desk.open_out(Port::Volume, name)?;
+    write_volume(desk, Port::Volume, volume)
 }
 
 /// Writes the label file under this name, and then the note.
@@ -76,5 +89,23 @@ pub fn write_segmentation<D: Desk>(
 {
     write_labels(desk, names.labels, labels)?;
     write_tree(desk, names.tree, tree)?;
+    put_all(desk, Port::Note, note.as_bytes())
+}
+
+/// Writes the volume file under this name, and then the note.
+pub fn write_made<D: Desk>(
+    desk: &mut D,
+    name: &str,
+    volume: &Volume,
+    note: &str,
+) -> Result<(), Failed>
+    requires { CanOpen VolumePort (D.state desk.old) }
+    ensures { MatchResult result
+        (λ _. WritesFiles (record { port = VolumePort; name = name.now; bytes = volume_bytes volume.now } ∷ [])
+        note.now (D.state desk.old) (D.state desk.new))
+        (λ _. FailsInFiles (record { port = VolumePort; name = name.now; bytes = volume_bytes volume.now } ∷ [])
+        note.now (D.state desk.old) (D.state desk.new)) }
+{
+    write_volume_file(desk, name, volume)?;
     put_all(desk, Port::Note, note.as_bytes())
 }

@@ -2,16 +2,15 @@ ghost use Rattle.std.specs.Prelude.{◌≡◌, ◌≢◌, ℕ, ◌⊎◌, ◌↔
 ghost use Rattle.agglo_model.specs.Count.{Rose};
 ghost use Rattle.command_words.specs.Jobs.{task_of};
 ghost use Rattle.command_words.specs.Texts.{texts};
-ghost use Rattle.command_words.specs.Words.{Task, Basins, Segment, Show, SegmentSettings, Spells, AreNoSettings, AreSomeSizes};
+ghost use Rattle.command_words.specs.Words.{Task, Basins, Segment, Make, Trial, Show, SegmentSettings, MakeSettings, TrialSettings, Spells, AreNoSettings, AreSomeSizes};
 ghost use Rattle.refusals.specs.Refusal.{status_of};
-ghost use Rattle.agglo_cli.specs.Reading.{HasFile};
-ghost use Rattle.agglo_cli.specs.Answers.{input_name};
-ghost use Rattle.agglo_cli.specs.Run.{IsFresh, FinishesTask, RefusesTask, RefusesRun, Told, Finishes, Refuses, NamesAFlawedFile, NamesAGoodFile, WritesNothing, IsStatus};
-ghost use Rattle.agglo_cli.specs.Headline.{IsAgglomerated};
+ghost use Rattle.agglo_cli.specs.Flaws.{HasInput, ComesFirst};
+ghost use Rattle.agglo_cli.specs.Run.{IsFresh, FinishesTask, RefusesTask, RefusesRun, Told, Finishes, Refuses, NamesAFlawedInput, NamesAGoodInput, WritesNothing, IsStatus};
+ghost use Rattle.agglo_cli.specs.Headline.{IsAgglomerated, IsMade, IsTried};
 
-use crate::input::{read_cut_volume, read_tree_file, read_volume_file};
-use crate::note::basins_note;
-use crate::output::{Names, write_basins, write_segmentation};
+use crate::input::{cut, read_cut_volume, read_tree_file, read_volume_file};
+use crate::note::{basins_note, make_note};
+use crate::output::{Names, write_basins, write_made, write_segmentation};
 use crate::shown::tree_note;
 use agglo_model::laws::bounded_labels;
 use agglo_model::laws_of_merging::greedy_merges_are_lawful;
@@ -19,18 +18,22 @@ use command_words::laws::{one_task, sizes_are_some};
 use command_words::{Job, read_words};
 use merge_tree::Tree;
 use refusals::{Refusal, tell};
+use seg_base::Dims;
 use seg_io::{Desk, Port, put_all};
-use segment_run::{Answer, Open, Settings, report_text, segment};
+use segment_run::{Answer, Gate, Settings, report_text, segment};
 use std::alloc::Global;
 use std::thread::Threads;
 use steepest_ascent::whole_basins;
+use volume_file::generate;
 
-/// Runs the program on the words after its name, and answers the status that it ends with.
-pub fn agglo<R: Threads + Sync, D: Desk>(
+/// Runs the program on the words after its name, and answers the status that it ends with. The gate is told of each
+/// node of a segmentation once before it is merged.
+pub fn agglo<R: Threads + Sync, D: Desk, G: Gate>(
     rt: &R,
     alloc: Global,
     words: &[String],
     desk: &mut D,
+    gate: &G,
 ) -> u8
     requires { IsFresh (D.state desk.old) }
     ensures status { IsStatus result }
@@ -39,6 +42,14 @@ pub fn agglo<R: Threads + Sync, D: Desk>(
     // whatever the chunks and the workers.
     ensures segmented { result ≡ 0 → (settings : SegmentSettings) → Spells (texts words.now) (Segment settings)
         → IsAgglomerated settings (D.state desk.old) (D.state desk.new) }
+
+    // The file of the generated volume was written, and its note.
+    ensures made { result ≡ 0 → (settings : MakeSettings) → Spells (texts words.now) (Make settings)
+        → IsMade settings (D.state desk.old) (D.state desk.new) }
+
+    // The report on the segmentation of the generated volume was printed, and no file was written.
+    ensures tried { result ≡ 0 → (settings : TrialSettings) → Spells (texts words.now) (Trial settings)
+        → IsTried settings (D.state desk.old) (D.state desk.new) }
 
     // The answer was written, whole and nothing else.
     ensures done { result ≡ 0 → Finishes (texts words.now) (D.state desk.old) (D.state desk.new) }
@@ -50,12 +61,13 @@ pub fn agglo<R: Threads + Sync, D: Desk>(
     ensures input { result ≡ 5 → Rose (D.state desk.old).input_faults (D.state desk.new).input_faults }
     ensures output { result ≡ 6 → Rose (D.state desk.old).output_faults (D.state desk.new).output_faults }
 
-    // A flaw of the input that the desk tells is found, but for want of memory and faults of the input.
-    ensures exactly { (status : ℕ) → NamesAFlawedFile (texts words.now) status (D.state desk.old)
-        → IfSome (D.state desk.old).files (λ _. (result ≡ status) ⊎ ((result ≡ 1) ⊎ (result ≡ 5))) }
+    // A flaw that is told, of a file by the desk and of leaves by the words, is found, but for want of memory and, in
+    // a file, faults of the input.
+    ensures exactly { (status : ℕ) → (named : NamesAFlawedInput (texts words.now) status (D.state desk.old))
+        → (result ≡ status) ⊎ ComesFirst named.task result }
 
     // With settings, an input that has no flaw, and no fault, only want of memory can come.
-    ensures complete { NamesAGoodFile (texts words.now) (D.state desk.old)
+    ensures complete { NamesAGoodInput (texts words.now) (D.state desk.old)
         → ¬ (Rose (D.state desk.old).input_faults (D.state desk.new).input_faults)
         → ¬ (Rose (D.state desk.old).output_faults (D.state desk.new).output_faults)
         → (result ≡ 0) ⊎ (result ≡ 1) }
@@ -64,11 +76,11 @@ pub fn agglo<R: Threads + Sync, D: Desk>(
     ensures quiet { result ≢ 0 → result ≢ 6 → WritesNothing (D.state desk.old) (D.state desk.new) }
 
     // A miss comes only where the words are settings, and no file has the name of their input.
-    ensures misses { ((task : Task) → Spells (texts words.now) task → HasFile (D.state desk.old) (input_name task))
+    ensures misses { ((task : Task) → Spells (texts words.now) task → HasInput (D.state desk.old) task)
         → IfSome (D.state desk.old).files (λ _. (D.state desk.new).misses ≡ (D.state desk.old).misses) }
 {
     one_task();
-    match run(rt, alloc, words, desk) {
+    match run(rt, alloc, words, desk, gate) {
         Ok(()) => 0,
         Err(refusal) => refuse(desk, &refusal),
     }
@@ -84,11 +96,12 @@ pub fn refuse<D: Desk>(desk: &mut D, refusal: &Refusal) -> u8
 }
 
 /// The run itself: the words, and what they ask for.
-fn run<R: Threads + Sync, D: Desk>(
+fn run<R: Threads + Sync, D: Desk, G: Gate>(
     rt: &R,
     alloc: Global,
     words: &[String],
     desk: &mut D,
+    gate: &G,
 ) -> Result<(), Refusal>
     requires { IsFresh (D.state desk.old) }
     ensures { MatchResult result
@@ -97,20 +110,22 @@ fn run<R: Threads + Sync, D: Desk>(
 {
     sizes_are_some();
     match read_words(alloc, words) {
-        Ok(job) => run_job(rt, alloc, desk, &job),
+        Ok(job) => run_job(rt, alloc, desk, &job, gate),
         Err(fault) => Err(Refusal::from(fault)),
     }
 }
 
 /// The run of one job.
-fn run_job<R: Threads + Sync, D: Desk>(
+fn run_job<R: Threads + Sync, D: Desk, G: Gate>(
     rt: &R,
     alloc: Global,
     desk: &mut D,
     job: &Job,
+    gate: &G,
 ) -> Result<(), Refusal>
     requires fresh { IsFresh (D.state desk.old) }
     requires sizes { (settings : SegmentSettings) → task_of job.now ≡ Segment settings → AreSomeSizes settings.chunk }
+    requires trial_sizes { (settings : TrialSettings) → task_of job.now ≡ Trial settings → AreSomeSizes settings.chunk }
     ensures { MatchResult result
         (λ _. FinishesTask (task_of job.now) (D.state desk.old) (D.state desk.new))
         (λ refusal. RefusesTask (task_of job.now) refusal (D.state desk.old) (D.state desk.new)) }
@@ -139,7 +154,36 @@ fn run_job<R: Threads + Sync, D: Desk>(
                 threshold: *threshold,
                 workers: *workers,
             };
-            run_segment(rt, alloc, desk, volume.as_str(), names, *chunk, &settings)
+            run_segment(
+                rt,
+                alloc,
+                desk,
+                volume.as_str(),
+                names,
+                *chunk,
+                &settings,
+                gate,
+            )
+        }
+        Job::Make {
+            volume,
+            start,
+            dims,
+        } => run_make(alloc, desk, volume.as_str(), *start, dims),
+        Job::Trial {
+            start,
+            dims,
+            low,
+            threshold,
+            chunk,
+            workers,
+        } => {
+            let settings = Settings {
+                low: *low,
+                threshold: *threshold,
+                workers: *workers,
+            };
+            run_trial(rt, alloc, desk, *start, dims, *chunk, &settings, gate)
         }
         Job::Show { tree } => run_show(alloc, desk, tree.as_str()),
     }
@@ -168,7 +212,7 @@ fn run_basins<D: Desk>(
 }
 
 /// Reads the volume, segments it, and writes the labels, the merge tree and the report.
-fn run_segment<R: Threads + Sync, D: Desk>(
+fn run_segment<R: Threads + Sync, D: Desk, G: Gate>(
     rt: &R,
     alloc: Global,
     desk: &mut D,
@@ -176,6 +220,7 @@ fn run_segment<R: Threads + Sync, D: Desk>(
     names: Names<'_>,
     chunk: [u32; 3],
     settings: &Settings,
+    gate: &G,
 ) -> Result<(), Refusal>
     requires fresh { IsFresh (D.state desk.old) }
     requires sizes { AreSomeSizes chunk }
@@ -195,11 +240,67 @@ fn run_segment<R: Threads + Sync, D: Desk>(
     bounded_labels();
     greedy_merges_are_lawful();
     let read = read_cut_volume(alloc, desk, volume, chunk)?;
-    let answer = segment(rt, alloc, &read.volume, &read.cutting, settings, &Open)?;
+    let answer = segment(rt, alloc, &read.volume, &read.cutting, settings, gate)?;
     let report = report_text(alloc, &answer)?;
     let Answer { labels, merges, .. } = answer;
     let tree = Tree::of(read.volume.dims(), settings.threshold, merges);
     match write_segmentation(desk, names, &labels, &tree, report.as_str()) {
+        Ok(()) => Ok(()),
+        Err(_) => Err(Refusal::Output),
+    }
+}
+
+/// Generates the volume of these axes from its start number, and writes its file.
+fn run_make<D: Desk>(
+    alloc: Global,
+    desk: &mut D,
+    name: &str,
+    start: u32,
+    dims: &Dims,
+) -> Result<(), Refusal>
+    requires { IsFresh (D.state desk.old) }
+    ensures { let task = Make (record { volume = name.now; start = start; axes = dims.now }) in
+        MatchResult result
+        (λ _. FinishesTask task (D.state desk.old) (D.state desk.new))
+        (λ refusal. RefusesTask task refusal (D.state desk.old) (D.state desk.new)) }
+{
+    let volume = generate(alloc, start, dims)?;
+    let note = make_note(alloc, dims)?;
+    match write_made(desk, name, &volume, note.as_str()) {
+        Ok(()) => Ok(()),
+        Err(_) => Err(Refusal::Output),
+    }
+}
+
+/// Generates the volume of these axes from its start number, segments it, and prints the report.
+fn run_trial<R: Threads + Sync, D: Desk, G: Gate>(
+    rt: &R,
+    alloc: Global,
+    desk: &mut D,
+    start: u32,
+    dims: &Dims,
+    chunk: [u32; 3],
+    settings: &Settings,
+    gate: &G,
+) -> Result<(), Refusal>
+    requires sizes { AreSomeSizes chunk }
+    ensures { let task = Trial (record {
+      start = start;
+      axes = dims.now;
+      low = settings.now.low;
+      threshold = settings.now.threshold;
+      chunk = chunk;
+      workers = settings.now.workers;
+    }) in
+        MatchResult result
+        (λ _. FinishesTask task (D.state desk.old) (D.state desk.new))
+        (λ refusal. RefusesTask task refusal (D.state desk.old) (D.state desk.new)) }
+{
+    let cutting = cut(dims, chunk)?;
+    let volume = generate(alloc, start, dims)?;
+    let answer = segment(rt, alloc, &volume, &cutting, settings, gate)?;
+    let report = report_text(alloc, &answer)?;
+    match put_all(desk, Port::Note, report.as_bytes()) {
         Ok(()) => Ok(()),
         Err(_) => Err(Refusal::Output),
     }

@@ -16,4 +16,4 @@ pub use answer::{Answer, Settings};
 pub use basin_run::basins;
 pub use chunk_run::{Gate, LevelCount, Open};
 pub use report::report_text;
-pub use segmenting::segment;
+pub use segmenting::{count_basins, segment};

@@ -87,7 +87,7 @@ fn agglomerate<R: Threads + Sync, G: Gate>(
 }
 
 /// How many basins there are: a basin has the name of one of its voxels, the number of it plus 1.
-fn count_basins(labels: &Labels) -> u32
+pub fn count_basins(labels: &Labels) -> u32
     requires { (g : Grid) × (low : ℕ) × AreBasins g low labels.now.labels }
     ensures { result ≡ length (names labels.now.labels) }
 {

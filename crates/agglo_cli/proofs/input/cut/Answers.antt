@@ -4,7 +4,7 @@ use Rattle.agglo_cli.proofs.input.cut.Goals as goal
 
 pub returns-in-Err-TooManyLeaves : goal.returns-in-Err-TooManyLeaves
 returns-in-Err-TooManyLeaves c =
-    too_many _ _ _ c.in-Err-TooManyLeaves.leaves c.requires c.in-Err-TooManyLeaves.field-0-is c.in-Err-TooManyLeaves.ensures
+    too_many _ _ _ c.in-Err-TooManyLeaves.leaves c.in-Err-TooManyLeaves.field-0-is c.in-Err-TooManyLeaves.ensures
 
 pub returns-in-Err-ChunkZero : goal.returns-in-Err-ChunkZero
 returns-in-Err-ChunkZero c =

@@ -15,7 +15,7 @@ returns c =
     let voxels : c.voxels-voxels.result ≡ length c.args.labels.now.labels =
     c.voxels-voxels.ensures.value ∙ (ap voxel_count c.dims.ensures.value ∙ sym c.dims.ensures.labelled.one_each) in
     let labelled = c.count_foreground-foreground.ensures ∙ ap foreground c.list.ensures.value in
-    let basins = c.count_basins-basins.ensures ∙ ap (λ labels. length (names labels)) c.list-2.ensures.value in
+    let basins = c.count_basins-basins.ensures in
     c.in_ok-note.ensures.ok
     ∙ (in_lines (codes "voxels") (32 ∷ decimal c.voxels-voxels.result) (codes "foreground") (32 ∷ decimal c.count_foreground-foreground.result)
     (codes "basins") (32 ∷ decimal c.count_basins-basins.result)

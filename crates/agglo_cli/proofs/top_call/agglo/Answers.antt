@@ -1,14 +1,29 @@
-use Rattle.agglo_cli.proofs.Explained.{is_segmented, done_not_flawed, no_settings_told, exactly_told, complete_told, misses_judged}
+use Rattle.agglo_cli.proofs.Explained.{is_segmented, is_made, is_tried, done_not_flawed, no_settings_told, input_told, output_told, quiet_told, exactly_told, complete_told, misses_judged}
 use Rattle.agglo_cli.proofs.top_call.agglo.Goals as goal
 
 pub returns-in-Ok-clause-segmented : goal.returns-in-Ok-clause-segmented
 returns-in-Ok-clause-segmented g c = λ _. is_segmented _ _ _ c.one_task.ensures c.in-Ok.ensures
+
+pub returns-in-Ok-clause-made : goal.returns-in-Ok-clause-made
+returns-in-Ok-clause-made g c = λ _. is_made _ _ _ c.one_task.ensures c.in-Ok.ensures
+
+pub returns-in-Ok-clause-tried : goal.returns-in-Ok-clause-tried
+returns-in-Ok-clause-tried g c = λ _. is_tried _ _ _ c.one_task.ensures c.in-Ok.ensures
 
 pub returns-in-Ok-clause-exactly : goal.returns-in-Ok-clause-exactly
 returns-in-Ok-clause-exactly g c = λ status n. done_not_flawed _ _ _ _ c.one_task.ensures c.in-Ok.ensures status n
 
 pub returns-in-Err-clause-no_settings : goal.returns-in-Err-clause-no_settings
 returns-in-Err-clause-no_settings g c = no_settings_told c.in-Err.refusal _ _ _ _ c.refuse.ensures.status c.in-Err.ensures
+
+pub returns-in-Err-clause-input : goal.returns-in-Err-clause-input
+returns-in-Err-clause-input g c = input_told c.in-Err.refusal _ _ _ _ _ c.refuse.ensures.status c.in-Err.ensures c.refuse.ensures.told
+
+pub returns-in-Err-clause-output : goal.returns-in-Err-clause-output
+returns-in-Err-clause-output g c = output_told c.in-Err.refusal _ _ _ _ _ c.refuse.ensures.status c.in-Err.ensures c.refuse.ensures.told
+
+pub returns-in-Err-clause-quiet : goal.returns-in-Err-clause-quiet
+returns-in-Err-clause-quiet g c = quiet_told c.in-Err.refusal _ _ _ _ _ c.refuse.ensures.status c.in-Err.ensures c.refuse.ensures.told
 
 pub returns-in-Err-clause-exactly : goal.returns-in-Err-clause-exactly
 returns-in-Err-clause-exactly g c = exactly_told c.in-Err.refusal _ _ _ _ c.refuse.ensures.status c.one_task.ensures c.in-Err.ensures

@@ -4,3 +4,6 @@ use Rattle.agglo_cli.proofs.top_call.run_job.Goals as goal
 
 pub run_segment-requires-clause-sizes : goal.run_segment-requires-clause-sizes
 run_segment-requires-clause-sizes g c κs within = c.requires.sizes _ (ap task_of c.in-Segment.is)
+
+pub run_trial-requires-clause-sizes : goal.run_trial-requires-clause-sizes
+run_trial-requires-clause-sizes g c κs within = c.requires.trial_sizes _ (ap task_of c.in-Trial.is)
