@@ -78,7 +78,7 @@ fraction_denominator word above below t parts without f =
 
 -- ---- sizes
 
-sizes_first : (word : List ℕ) (sizes : List ℕ) → (s : AreSizes word sizes) → word ≡ s.x ++ 44 ∷ (s.y ++ 44 ∷ s.z)
+pub sizes_first : (word : List ℕ) (sizes : List ℕ) → (s : AreSizes word sizes) → word ≡ s.x ++ 44 ∷ (s.y ++ 44 ∷ s.z)
 sizes_first word sizes s = s.parts
     ∙ append_assoc ((s.x ++ 44 ∷ []) ++ s.y) (44 ∷ []) s.z
     ∙ append_assoc (s.x ++ 44 ∷ []) s.y (44 ∷ s.z)

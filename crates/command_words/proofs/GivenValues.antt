@@ -1,13 +1,13 @@
 -- The value of an option is one, so what is made of it is one.
-use Rattle.std.proofs.Common.{◌≡◌, ◌≢◌, inl, inr, ℕ, ◌<◌, List, length, get_or, AllPairs, Option, Some, None, MatchOption, sym, ap, ◌∙◌, subst}
+use Rattle.std.proofs.Common.{◌≡◌, ◌≢◌, inl, inr, ℕ, ◌<◌, List, length, get_or, AllPairs, codes, Option, Some, None, MatchOption, sym, ap, ◌∙◌, subst}
 use denote.Ref.{Bor}
 use Rattle.std.proofs.lemmas.Bool.{cases_order}
 use Rattle.std.proofs.lemmas.List.{get_or_default}
 use Rattle.agglo_model.specs.Axes.{Axes}
 use Rattle.agglo_model.specs.PairOrder.{Threshold}
-use Rattle.command_words.specs.Words.{Given, HasValue, HasName, HasNumber, HasFraction, HasSizes, HasAxes, IsName, IsNumber, IsFraction, AreSizes, SpellsAxes, digits_number}
+use Rattle.command_words.specs.Words.{Given, AreOptionsOf, show_options, GivesShow, HasValue, HasName, HasNumber, HasFraction, HasSizes, HasAxes, IsName, IsNumber, IsFraction, AreSizes, SpellsAxes, digits_number}
 use Rattle.command_words.specs.declared.options.OptionName.{OptionName}
-use Rattle.command_words.specs.Slots.{spelled, slot_of, IsMissing, IsSlot, AreKnownOnce, AreSlots}
+use Rattle.command_words.specs.Slots.{spelled, slot_of, IsSlot, AreSlots}
 
 -- two places of options with one name are one place
 same_place : (given : List Given) (k j : ℕ) (o p : Given) → AllPairs (λ a b. a.name ≢ b.name) given → k < j → j < length given
@@ -25,30 +25,25 @@ by_order given k j o p once lt lt' is is' names = elim (cases_order k j) [
 ]
 
 -- an option that is given once has one value
-pub same_value : (given : List Given) → AreKnownOnce given → (name a b : List ℕ) → HasValue given name a → HasValue given name b → a ≡ b
-same_value given known name a b (o, there, named, valued) (p, there', named', valued') =
+pub same_value : (given : List Given) → AllPairs (λ o p. o.name ≢ p.name) given → (name a b : List ℕ) → HasValue given name a → HasValue given name b → a ≡ b
+same_value given once name a b (o, there, named, valued) (p, there', named', valued') =
     sym valued ∙ ap (λ (g : Given). g.value)
-    (by_order given there.0 there'.0 o p known.once there.1 there'.1 there.2 there'.2 (named ∙ sym named')) ∙ valued'
+    (by_order given there.0 there'.0 o p once there.1 there'.1 there.2 there'.2 (named ∙ sym named')) ∙ valued'
 
--- no value of an option that is missing
-pub missing_value : (given : List Given) (name value : List ℕ) → IsMissing given name → HasValue given name value → ⊥
-missing_value given name value none (o, there, named, valued) =
-    none there.0 o there.1 (ap (λ (g : Given). g.name) there.2 ∙ named)
+-- one name of a file
+pub same_name : (given : List Given) → AllPairs (λ o p. o.name ≢ p.name) given → (name a b : List ℕ) → HasName given name a → HasName given name b → a ≡ b
+same_name given once name a b h g = same_value given once name a b h.given g.given
 
 -- what a slot tells of its option
 pub slot_some : (given : List Given) (n : OptionName) (values : List (Option (Bor (List ℕ)))) (value : Bor (List ℕ))
     → AreSlots given values → slot_of values n ≡ Some value → HasValue given (spelled n) value.now
 slot_some given n values value slots is = subst (IsSlot given (spelled n)) is (slots.slots n)
 
-pub slot_none : (given : List Given) (n : OptionName) (values : List (Option (Bor (List ℕ)))) → AreSlots given values
-    → slot_of values n ≡ None → IsMissing given (spelled n)
-slot_none given n values slots is = subst (IsSlot given (spelled n)) is (slots.slots n)
-
 -- the word of an option is that in its slot
 pub slot_word : (given : List Given) (n : OptionName) (values : List (Option (Bor (List ℕ)))) (value : Bor (List ℕ)) (word : List ℕ)
     → AreSlots given values → slot_of values n ≡ Some value → HasValue given (spelled n) word → word ≡ value.now
 slot_word given n values value word slots is has =
-    same_value given slots.known_once (spelled n) word value.now has (slot_some given n values value slots is)
+    same_value given slots.once (spelled n) word value.now has (slot_some given n values value slots is)
 
 -- ---- what is made of a word
 
@@ -105,3 +100,9 @@ axes_outcome (Some axes) given n values value slots is good = record {
   given = slot_some given n values value slots is;
   axes_are = good;
 }
+
+pub show_outcome : (r : Option (Bor (List ℕ))) (given : List Given) → AreOptionsOf show_options given
+    → MatchOption r ((file : List ℕ) → ¬ (HasName given (codes "tree") file)) (λ file. HasName given (codes "tree") file.now)
+    → MatchOption r ((tree : List ℕ) → ¬ (GivesShow given tree)) (λ tree. GivesShow given tree.now)
+show_outcome None given are bad = λ tree gives. bad tree gives.tree_name
+show_outcome (Some tree) given are has = record { options_are = are; tree_name = has }

@@ -4,7 +4,7 @@ use Rattle.std.specs.List.{list_any}
 use Rattle.std.proofs.lemmas.Bool.{eqb-false, or_parts}
 use Rattle.command_words.specs.Words.{Given, given_words}
 use Rattle.command_words.specs.Parts.{IsWithout}
-use Rattle.command_words.specs.Slots.{option_names, IsNoOption}
+use Rattle.command_words.specs.Slots.{option_names}
 use Rattle.command_words.proofs.Cuts.{cut_once, no_parts}
 
 -- the dashes before a name
@@ -45,6 +45,9 @@ known_without name known = name_cases (IsWithout 61)
     (without_by_test 61 (codes "start") refl)
     (without_by_test 61 (codes "dims") refl)
     name known
+
+pub known_filled : (name : List ℕ) → Contains option_names name → name ≢ []
+known_filled = name_cases (λ name. name ≢ []) (λ e. cc e) (λ e. cc e) (λ e. cc e) (λ e. cc e) (λ e. cc e) (λ e. cc e) (λ e. cc e) (λ e. cc e) (λ e. cc e)
 
 -- ---- one option
 
@@ -108,41 +111,6 @@ same_option o p rest more words known_o known_p (TwoWords e) (TwoWords f) =
       rests = same_rest o.value p.value rest more later;
     }
 
--- ---- the first option of words, as the code finds it
-
--- no word begins with two dashes: no option
-pub no_dashes : (word : List ℕ) (others : List (List ℕ)) → ((text : List ℕ) → word ≢ dashed text) → IsNoOption (word ∷ others)
-no_dashes word others none o rest known e = elim (form_of o rest (word ∷ others) e) [
-  | OneWord f ↦ none (o.name ++ 61 ∷ o.value) (same_first _ _ others rest f)
-  | TwoWords f ↦ none o.name (same_first _ _ others (o.value ∷ rest) f)
-]
-
-pub no_words : IsNoOption []
-no_words o rest known e = elim (form_of o rest [] e) [ OneWord f ↦ cc f | TwoWords f ↦ cc f ]
-
--- a word with a name that no command knows before its first `=`
-pub unknown_joined : (text name value : List ℕ) (others : List (List ℕ)) → text ≡ name ++ 61 ∷ value → IsWithout 61 name
-    → ¬ (Contains option_names name) → IsNoOption (dashed text ∷ others)
-unknown_joined text name value others cut without unknown o rest known e = elim (form_of o rest (dashed text ∷ others) e) [
-  | OneWord f ↦ (let texts = sym cut ∙ same_dashed text (o.name ++ 61 ∷ o.value) (same_first _ _ others rest f) in
-      let parts = cut_once 61 name value o.name o.value texts without (known_without o.name known) in
-      unknown (subst (Contains option_names) (sym parts.0) known))
-  | TwoWords f ↦ no_parts 61 o.name name value (known_without o.name known)
-      (sym (same_dashed text o.name (same_first _ _ others (o.value ∷ rest) f)) ∙ cut)
-]
-
--- a word without `=` whose text no command knows as a name
-pub unknown_apart : (text : List ℕ) (others : List (List ℕ)) → IsWithout 61 text → ¬ (Contains option_names text)
-    → IsNoOption (dashed text ∷ others)
-unknown_apart text others without unknown o rest known e = elim (form_of o rest (dashed text ∷ others) e) [
-  | OneWord f ↦ no_parts 61 text o.name o.value without (same_dashed text (o.name ++ 61 ∷ o.value) (same_first _ _ others rest f))
-  | TwoWords f ↦ unknown (subst (Contains option_names)
-      (sym (same_dashed text o.name (same_first _ _ others (o.value ∷ rest) f))) known)
-]
-
--- a word without `=`, and no word after it
-pub no_value : (text : List ℕ) → IsWithout 61 text → IsNoOption (dashed text ∷ [])
-no_value text without o rest known e = elim (form_of o rest (dashed text ∷ []) e) [
-  | OneWord f ↦ no_parts 61 text o.name o.value without (same_dashed text (o.name ++ 61 ∷ o.value) (same_first _ _ [] rest f))
-  | TwoWords f ↦ (let none = same_rest _ _ [] (o.value ∷ rest) f in cc none)
-]
+-- no words are no option
+pub no_words : (o : Given) (rest : List (List ℕ)) → ¬ ([] ≡ given_words o ++ rest)
+no_words o rest e = elim (form_of o rest [] e) [ OneWord f ↦ cc f | TwoWords f ↦ cc f ]

@@ -1,9 +1,15 @@
 pub mod Cuts
 pub mod GivenWords
-pub mod FirstOption
+pub mod LongWords
+pub mod ParserRules
+pub mod ParserTurns
+pub mod ParserReads
+pub mod ParserTakes
+pub mod ParserAnswers
 pub mod Slots
 pub mod OneReading
 pub mod GivenValues
-pub mod OptionsOf
 pub mod WholeWords
 pub mod OneTask
+pub mod PlainValues
+pub mod BareWords

@@ -4,7 +4,7 @@ use Rattle.std.specs.List.{flat_map}
 use Rattle.agglo_model.specs.Axes.{Axes}
 use Rattle.agglo_model.specs.PairOrder.{Threshold}
 use Rattle.command_words.specs.Words.{Given, given_words, HasValue, HasName, HasNumber, HasFraction, HasSizes, HasAxes, IsFraction, AreSizes, SpellsAxes, AreSomeSizes, SizesAreSome, digits_number, BasinsSettings, SegmentSettings, MakeSettings, TrialSettings, GivesBasins, GivesSegment, GivesMake, GivesTrial, Task, Basins, Segment, Make, Trial, Show, command_of, Gives, Spells}
-use Rattle.command_words.specs.Slots.{AreKnownOnce}
+use Rattle.command_words.proofs.Slots.{AreKnownOnce}
 use Rattle.command_words.proofs.Cuts.{fraction_once, sizes_once, axes_once}
 use Rattle.command_words.proofs.GivenValues.{same_value}
 use Rattle.command_words.proofs.OneReading.{SamePairs, one_reading, given_there}
@@ -18,7 +18,7 @@ record AreSame (given options : List Given) : Type 0 where
 word_same : (given options : List Given) → AreSame given options → (name a b : List ℕ) → HasValue given name a → HasValue options name b → a ≡ b
 word_same given options same name a b (o, there, named, valued) has =
     let on = given_there given options same.pairs o there in
-    same_value options same.known name a b (on.0, on.1, on.2 ∙ named, on.3 ∙ valued) has
+    same_value options same.known.once name a b (on.0, on.1, on.2 ∙ named, on.3 ∙ valued) has
 
 name_same : (given options : List Given) → AreSame given options → (name a b : List ℕ) → HasName given name a → HasName options name b → a ≡ b
 name_same given options same name a b h k = word_same given options same name a b h.given k.given

@@ -1,6 +1,6 @@
 -- What the words of the command line ask for, as the program's own jobs.
-use Rattle.std.specs.Prelude.{ℕ, List, string_bytes}
-use Rattle.command_words.specs.Words.{Task, Basins, Segment, Make, Trial, Show, Spells, AreNoSettings}
+use Rattle.std.specs.Prelude.{ℕ, List, Result, MatchResult, string_bytes}
+use Rattle.command_words.specs.Words.{Task, Basins, Segment, Make, Trial, Show, Spells, AreNoSettings, MayBeSettings}
 use Rattle.command_words.specs.declared.job.Job.{Job}
 use Rattle.command_words.specs.declared.job.Job.TheVariants as jobs
 use Rattle.command_words.specs.declared.job.WordsFault.{WordsFault}
@@ -34,7 +34,11 @@ task_of (jobs.Show tree) = Show (string_bytes tree)
 abbrev pub SpellsJob : List (List ℕ) → Job → Type 0
 SpellsJob words job = Spells words (task_of job)
 
--- why words were refused: memory is asked for only once they are settings
+-- why words were refused: memory is asked for only where they may be settings
 abbrev pub RefusesWords : List (List ℕ) → WordsFault → Type 0
 RefusesWords words NoSettings = AreNoSettings words
-RefusesWords words Memory = (task : Task) × Spells words task
+RefusesWords words Memory = MayBeSettings words
+
+-- the job of the words, or why there is none
+abbrev pub AnswersWords : List (List ℕ) → Result Job WordsFault → Type 0
+AnswersWords words result = MatchResult result (SpellsJob words) (RefusesWords words)

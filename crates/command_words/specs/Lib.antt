@@ -3,4 +3,4 @@ pub mod Texts
 pub mod Slots
 pub mod Parts
 pub mod Jobs
-pub mod Made
+pub mod Parser

@@ -1,12 +1,12 @@
--- Options while they are read: a place for the value of each, and the options given so far.
-use Rattle.std.specs.Prelude.{◌≡◌, ◌≢◌, ℕ, ◌+◌, ◌==◌, ◌<◌, Bool, List, [], ◌∷◌, ◌++◌, length, All, AllPairs, Contains, Option, None, is_some, MatchOption, slice_index_or, codes}
-use Rattle.std.specs.List.{flat_map, list_any}
+-- The options of all commands, and the values that words give them.
+use Rattle.std.specs.Prelude.{◌≡◌, ◌≢◌, ℕ, List, [], ◌∷◌, All, AllPairs, Option, None, MatchOption, slice_index_or, codes}
+use Rattle.std.specs.List.{flat_map}
 use denote.Ref.{Bor}
-use Rattle.command_words.specs.Words.{Given, given_words, HasValue}
-use Rattle.command_words.specs.Texts.{texts}
+use Rattle.command_words.specs.Words.{Given, given_words, AreOptionsOf, HasValue, IsName}
 use Rattle.command_words.specs.declared.options.OptionName.{OptionName}
 use Rattle.command_words.specs.declared.options.OptionName.TheVariants.{Volume, Labels, Tree, Low, Merge, Chunk, Workers, Start, Dims}
-use Rattle.command_words.specs.declared.options.Cut.{Cut}
+use Rattle.command_words.specs.declared.job.WordsFault.{WordsFault}
+use Rattle.command_words.specs.declared.job.WordsFault.TheVariants.{NoSettings, Memory}
 
 -- the names of all options of all commands
 abbrev pub option_names : List (List ℕ)
@@ -22,9 +22,6 @@ spelled Chunk = codes "chunk"
 spelled Workers = codes "workers"
 spelled Start = codes "start"
 spelled Dims = codes "dims"
-
-abbrev pub all_options : List OptionName
-all_options = Volume ∷ Labels ∷ Tree ∷ Low ∷ Merge ∷ Chunk ∷ Workers ∷ Start ∷ Dims ∷ []
 
 -- the place of an option's value among those of all
 abbrev pub place : OptionName → ℕ
@@ -42,52 +39,28 @@ place Dims = 8
 abbrev pub slot_of : List (Option (Bor (List ℕ))) → OptionName → Option (Bor (List ℕ))
 slot_of values option = slice_index_or values (place option) None
 
--- the option is one of these
-abbrev pub is_among : OptionName → List OptionName → Bool
-is_among option = list_any (λ other. place other == place option)
-
--- just these options have a value
-abbrev pub AreGivenJust : List OptionName → List (Option (Bor (List ℕ))) → Type 0
-AreGivenJust options values = All (λ option. is_some (slot_of values option) ≡ is_among option options) all_options
-
 -- no option of this name is given
 abbrev pub IsMissing : List Given → List ℕ → Type 0
 IsMissing options name = All (λ o. o.name ≢ name) options
-
--- the options have names that some command knows, and each is given once
-pub record AreKnownOnce (options : List Given) : Type 0 where
-  pub known : All (λ o. Contains option_names o.name) options
-  pub once : AllPairs (λ o p. o.name ≢ p.name) options
-
--- these words are no options, each known and given once
-abbrev pub AreNoOptions : List (List ℕ) → Type 0
-AreNoOptions words = (options : List Given) → AreKnownOnce options → ¬ (words ≡ flat_map given_words options)
 
 -- the value at an option's place is the one that is given, or none is
 abbrev pub IsSlot : List Given → List ℕ → Option (Bor (List ℕ)) → Type 0
 IsSlot options name slot = MatchOption slot (IsMissing options name) (λ value. HasValue options name value.now)
 
--- each place has the value of its option
+-- no option is given twice, and each place has the value of its option
 pub record AreSlots (options : List Given) (values : List (Option (Bor (List ℕ)))) : Type 0 where
-  pub nine : length values ≡ 9
-  pub known_once : AreKnownOnce options
+  pub once : AllPairs (λ o p. o.name ≢ p.name) options
   pub slots : (option : OptionName) → IsSlot options (spelled option) (slot_of values option)
 
--- the words are options, each known and given once, and these are their values
-pub record ReadsOptions (words : List (List ℕ)) (values : List (Option (Bor (List ℕ)))) : Type 0 where
+-- the words are the options of these names, and these are their values
+pub record ReadsOptions (names words : List (List ℕ)) (values : List (Option (Bor (List ℕ)))) : Type 0 where
   pub options : List Given
   pub words_are : words ≡ flat_map given_words options
+  pub options_are : AreOptionsOf names options
   pub slots : AreSlots options values
 
--- the words begin with this option
-pub record IsCut (words : List (List ℕ)) (cut : Cut) : Type 0 where
-  pub option : Given
-  pub words_are : words ≡ given_words option ++ texts cut.rest.now
-  pub name : option.name ≡ spelled cut.name
-  pub value : option.value ≡ cut.value.now
-  pub fewer : length cut.rest.now + 1 < length words + 1
-
--- the words begin with no option that some command knows
-abbrev pub IsNoOption : List (List ℕ) → Type 0
-IsNoOption words = (option : Given) (rest : List (List ℕ)) → Contains option_names option.name
-    → ¬ (words ≡ given_words option ++ rest)
+-- why they are not: whatever options of these names stand there, one has a value that no option takes
+abbrev pub RefusesOptions : List (List ℕ) → List (List ℕ) → WordsFault → Type 0
+RefusesOptions names words NoSettings = (options : List Given) → AreOptionsOf names options → All (λ o. IsName o.value) options
+    → ¬ (words ≡ flat_map given_words options)
+RefusesOptions names words Memory = Unit {0}

@@ -4,6 +4,7 @@ use Rattle.std.specs.List.{flat_map}
 use Rattle.std.specs.Char.{IsAsciiDigit}
 use Rattle.agglo_model.specs.Axes.{Axes, IsWithinLimits}
 use Rattle.agglo_model.specs.PairOrder.{Threshold}
+use Rattle.command_words.specs.Parts.{IsWithout}
 
 -- a name of a file: any text that is not empty and does not begin with `-`
 pub record IsName (word : List ℕ) : Type 0 where
@@ -103,6 +104,26 @@ pub record HasAxes (options : List Given) (name : List ℕ) (axes : Axes) : Type
 
 -- ---- commands
 
+-- the words of the commands
+abbrev pub commands : List (List ℕ)
+commands = codes "basins" ∷ codes "segment" ∷ codes "make" ∷ codes "trial" ∷ codes "show" ∷ []
+
+-- the options of each
+abbrev pub basins_options : List (List ℕ)
+basins_options = codes "volume" ∷ codes "labels" ∷ codes "low" ∷ []
+
+abbrev pub segment_options : List (List ℕ)
+segment_options = codes "volume" ∷ codes "labels" ∷ codes "tree" ∷ codes "low" ∷ codes "merge" ∷ codes "chunk" ∷ codes "workers" ∷ []
+
+abbrev pub make_options : List (List ℕ)
+make_options = codes "volume" ∷ codes "start" ∷ codes "dims" ∷ []
+
+abbrev pub trial_options : List (List ℕ)
+trial_options = codes "start" ∷ codes "dims" ∷ codes "low" ∷ codes "merge" ∷ codes "chunk" ∷ codes "workers" ∷ []
+
+abbrev pub show_options : List (List ℕ)
+show_options = codes "tree" ∷ []
+
 -- what the options of `basins` say
 pub record BasinsSettings : Type 0 where
   pub volume : List ℕ
@@ -110,7 +131,7 @@ pub record BasinsSettings : Type 0 where
   pub low : ℕ
 
 pub record GivesBasins (options : List Given) (settings : BasinsSettings) : Type 0 where
-  pub options_are : AreOptionsOf (codes "volume" ∷ codes "labels" ∷ codes "low" ∷ []) options
+  pub options_are : AreOptionsOf basins_options options
   pub volume : HasName options (codes "volume") settings.volume
   pub labels : HasName options (codes "labels") settings.labels
   pub low : HasNumber options (codes "low") 0 255 settings.low
@@ -125,10 +146,6 @@ pub record SegmentSettings : Type 0 where
   pub threshold : Threshold
   pub chunk : List ℕ
   pub workers : ℕ
-
--- the names of the options of `segment`
-abbrev pub segment_options : List (List ℕ)
-segment_options = codes "volume" ∷ codes "labels" ∷ codes "tree" ∷ codes "low" ∷ codes "merge" ∷ codes "chunk" ∷ codes "workers" ∷ []
 
 pub record GivesSegment (options : List Given) (settings : SegmentSettings) : Type 0 where
   pub options_are : AreOptionsOf segment_options options
@@ -145,7 +162,7 @@ pub record GivesSegment (options : List Given) (settings : SegmentSettings) : Ty
 
 -- the option of `show` names this tree file
 pub record GivesShow (options : List Given) (tree : List ℕ) : Type 0 where
-  pub options_are : AreOptionsOf (codes "tree" ∷ []) options
+  pub options_are : AreOptionsOf show_options options
   pub tree_name : HasName options (codes "tree") tree
 
 -- what the options of `make` say
@@ -155,7 +172,7 @@ pub record MakeSettings : Type 0 where
   pub axes : Axes
 
 pub record GivesMake (options : List Given) (settings : MakeSettings) : Type 0 where
-  pub options_are : AreOptionsOf (codes "volume" ∷ codes "start" ∷ codes "dims" ∷ []) options
+  pub options_are : AreOptionsOf make_options options
   pub volume : HasName options (codes "volume") settings.volume
   pub start : HasNumber options (codes "start") 0 4294967295 settings.start
   pub dims : HasAxes options (codes "dims") settings.axes
@@ -168,10 +185,6 @@ pub record TrialSettings : Type 0 where
   pub threshold : Threshold
   pub chunk : List ℕ
   pub workers : ℕ
-
--- the names of the options of `trial`
-abbrev pub trial_options : List (List ℕ)
-trial_options = codes "start" ∷ codes "dims" ∷ codes "low" ∷ codes "merge" ∷ codes "chunk" ∷ codes "workers" ∷ []
 
 pub record GivesTrial (options : List Given) (settings : TrialSettings) : Type 0 where
   pub options_are : AreOptionsOf trial_options options
@@ -198,6 +211,14 @@ command_of (Make settings) = codes "make"
 command_of (Trial settings) = codes "trial"
 command_of (Show tree) = codes "show"
 
+-- the names of its options
+abbrev pub options_of : Task → List (List ℕ)
+options_of (Basins settings) = basins_options
+options_of (Segment settings) = segment_options
+options_of (Make settings) = make_options
+options_of (Trial settings) = trial_options
+options_of (Show tree) = show_options
+
 -- what follows it
 abbrev pub Gives : List Given → Task → Type 0
 Gives options (Basins settings) = GivesBasins options settings
@@ -215,6 +236,19 @@ pub record Spells (words : List (List ℕ)) (task : Task) : Type 0 where
 -- the words are no settings of any command
 abbrev pub AreNoSettings : List (List ℕ) → Type 0
 AreNoSettings words = (task : Task) → ¬ (Spells words task)
+
+-- a word that says at once that the words are no settings: `--`, or `--name=` with nothing after it
+pub data IsBare (word : List ℕ) : Type 0 where
+  Dashes : word ≡ codes "--" → IsBare word
+  NoValue : (name : List ℕ) → IsWithout 61 name → word ≡ codes "--" ++ name ++ codes "=" → IsBare word
+
+-- the words may be settings: the first is that of a command, and none of the others is bare
+pub record MayBeSettings (words : List (List ℕ)) : Type 0 where
+  pub command : List ℕ
+  pub others : List (List ℕ)
+  pub words_are : words ≡ command ∷ others
+  pub known : Contains commands command
+  pub none_bare : All (λ word. ¬ (IsBare word)) others
 
 -- words spell one task at most
 abbrev pub OneTask : Type 0

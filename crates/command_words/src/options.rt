@@ -1,16 +1,15 @@
-ghost use Rattle.std.specs.Prelude.{◌≡◌, ℕ, ◌<◌, ◌≢◌, List, IsTrue, MatchBool, MatchOption, IfSome, IsSome, is_some, Some, None, ◌≤◌, All, ◌↔◌, length, slice_index_or, slice_set, Contains};
-ghost use Rattle.command_words.specs.Texts.{texts};
-ghost use Rattle.command_words.specs.Slots.{option_names, is_among, AreGivenJust, spelled, place, slot_of, AreNoOptions, IsCut, IsNoOption, AreSlots, ReadsOptions};
+ghost use Rattle.std.specs.Prelude.{◌≡◌, ℕ, ◌<◌, List, MatchOption, IfSome, ◌≤◌};
+ghost use Rattle.command_words.specs.Slots.{spelled, place, slot_of, AreSlots};
 ghost use Rattle.agglo_model.specs.Axes.{Axes};
 ghost use Rattle.agglo_model.specs.PairOrder.{Threshold as Fraction};
 ghost use Rattle.command_words.specs.Words.{Given, HasName, HasNumber, HasFraction, HasSizes, HasAxes};
 
-use crate::values::{cut_at, is_name, parse_axes, parse_fraction, parse_number, parse_sizes};
+use crate::values::{is_name, parse_axes, parse_fraction, parse_number, parse_sizes};
 use mean_fraction::Threshold;
 use seg_base::Dims;
 
-/// The name of an option that some command has.
-#[derive(Clone, Copy, Debug, PartialEq, Eq)]
+/// An option that some command has.
+#[derive(Clone, Copy)]
 pub enum OptionName {
     Volume,
     Labels,
@@ -24,42 +23,21 @@ pub enum OptionName {
 }
 
 impl OptionName {
-    /// All options.
-    const ALL: [OptionName; 9] = [
-        OptionName::Volume,
-        OptionName::Labels,
-        OptionName::Tree,
-        OptionName::Low,
-        OptionName::Merge,
-        OptionName::Chunk,
-        OptionName::Workers,
-        OptionName::Start,
-        OptionName::Dims,
-    ];
-
-    /// The option of this name.
-    fn of(name: &str) -> Option<OptionName>
-        ensures { MatchOption result (¬ (Contains option_names name.now)) (λ option. name.now ≡ spelled option) }
+    /// The name of the option, without the dashes before it.
+    pub fn text(self) -> &'static str
+        ensures { result.now ≡ spelled self }
     {
-        match name {
-            "volume" => Some(OptionName::Volume),
-            "labels" => Some(OptionName::Labels),
-            "tree" => Some(OptionName::Tree),
-            "low" => Some(OptionName::Low),
-            "merge" => Some(OptionName::Merge),
-            "chunk" => Some(OptionName::Chunk),
-            "workers" => Some(OptionName::Workers),
-            "start" => Some(OptionName::Start),
-            "dims" => Some(OptionName::Dims),
-            _ => None,
+        match self {
+            OptionName::Volume => "volume",
+            OptionName::Labels => "labels",
+            OptionName::Tree => "tree",
+            OptionName::Low => "low",
+            OptionName::Merge => "merge",
+            OptionName::Chunk => "chunk",
+            OptionName::Workers => "workers",
+            OptionName::Start => "start",
+            OptionName::Dims => "dims",
         }
-    }
-
-    /// Whether the option is one of these.
-    fn is_among(self, options: &[OptionName]) -> bool
-        ensures { result ≡ is_among self options.now }
-    {
-        options.iter().any(|option| option.place() == self.place())
     }
 
     /// The place of the option in a list of all.
@@ -93,27 +71,6 @@ impl<'a> Options<'a> {
         ensures { result ≡ slot_of self.now.values option }
     {
         self.values[option.place()]
-    }
-
-    /// Whether just these options are given.
-    pub fn are(&self, options: &[OptionName]) -> bool
-        ensures { IsTrue result ↔ AreGivenJust options.now self.now.values }
-    {
-        self.agree(&OptionName::ALL, options)
-    }
-
-    /// Whether of all options just these are given.
-    fn agree(&self, all: &[OptionName], options: &[OptionName]) -> bool
-        ensures { IsTrue result ↔ All (λ option. is_some (slot_of self.now.values option) ≡ is_among option options.now) all.now }
-    {
-        all.iter().all(|option| self.agrees(*option, options))
-    }
-
-    /// Whether an option is given just where it is one of these.
-    fn agrees(&self, option: OptionName, options: &[OptionName]) -> bool
-        ensures { IsTrue result ↔ (is_some (slot_of self.now.values option) ≡ is_among option options.now) }
-    {
-        self.value(option).is_some() == option.is_among(options)
     }
 }
 
@@ -178,66 +135,4 @@ impl<'a> Options<'a> {
         };
         parse_axes(word)
     }
-}
-
-/// One option, and the words after it.
-#[derive(Clone, Copy)]
-pub struct Cut<'a> {
-    pub name: OptionName,
-    pub value: &'a str,
-    pub rest: &'a [String],
-}
-
-/// The options that these words give: `--name=value` in one word, or `--name` and the value in two. None
-/// where a word is neither, where no command has such an option, or where one is given twice.
-pub fn read_options(words: &[String]) -> Option<Options<'_>>
-    ensures { MatchOption result (AreNoOptions (texts words.now)) (λ options. ReadsOptions (texts words.now) options.values) }
-{
-    let mut values: [Option<&str>; 9] = [None; 9];
-    let mut rest = words;
-    while !rest.is_empty() {
-        let Some(cut) = cut_first(rest) else {
-            return None;
-        };
-        let place = cut.name.place();
-        let given = values[place];
-        if given.is_some() {
-            return None;
-        }
-        values[place] = Some(cut.value);
-        rest = cut.rest;
-    }
-    Some(Options { values })
-}
-
-/// The first option of these words.
-fn cut_first(words: &[String]) -> Option<Cut<'_>>
-    ensures { MatchOption result (IsNoOption (texts words.now)) (IsCut (texts words.now)) }
-{
-    let [word, others @ ..] = words else {
-        return None;
-    };
-    let Some(option) = word.as_str().strip_prefix("--") else {
-        return None;
-    };
-    match cut_at(option, '=') {
-        Some((name, value)) => cut_of(name, value, others),
-        None => {
-            let [value, rest @ ..] = others else {
-                return None;
-            };
-            cut_of(option, value.as_str(), rest)
-        }
-    }
-}
-
-/// The option of this name and value, if some command has it.
-fn cut_of<'a>(name: &str, value: &'a str, rest: &'a [String]) -> Option<Cut<'a>>
-    ensures { MatchOption result (¬ (Contains option_names name.now))
-        (λ cut. (name.now ≡ spelled cut.name) × (cut.value.now ≡ value.now) × (cut.rest.now ≡ rest.now)) }
-{
-    let Some(name) = OptionName::of(name) else {
-        return None;
-    };
-    Some(Cut { name, value, rest })
 }

@@ -1,5 +1,5 @@
 ghost use Rattle.std.specs.Prelude.{◌≡◌, ℕ, List, MatchOption};
-ghost use Rattle.command_words.specs.Words.{BasinsSettings, SegmentSettings, MakeSettings, TrialSettings, Given, GivesBasins, GivesSegment, GivesMake, GivesTrial, GivesShow};
+ghost use Rattle.command_words.specs.Words.{BasinsSettings, SegmentSettings, MakeSettings, TrialSettings, Given, GivesBasins, GivesSegment, GivesMake, GivesTrial, GivesShow, AreOptionsOf, basins_options, segment_options, make_options, trial_options, show_options};
 ghost use Rattle.command_words.specs.Slots.{AreSlots};
 
 use crate::options::{OptionName, Options};
@@ -52,10 +52,14 @@ pub struct SegmentValues<'a> {
 }
 
 /// The options of `basins`.
-const BASINS_OPTIONS: [OptionName; 3] = [OptionName::Volume, OptionName::Labels, OptionName::Low];
+pub const BASINS_OPTIONS: [OptionName; 3] = [
+    OptionName::Volume,
+    OptionName::Labels,
+    OptionName::Low,
+];
 
 /// The options of `segment`.
-const SEGMENT_OPTIONS: [OptionName; 7] = [
+pub const SEGMENT_OPTIONS: [OptionName; 7] = [
     OptionName::Volume,
     OptionName::Labels,
     OptionName::Tree,
@@ -66,10 +70,10 @@ const SEGMENT_OPTIONS: [OptionName; 7] = [
 ];
 
 /// The options of `make`.
-const MAKE_OPTIONS: [OptionName; 3] = [OptionName::Volume, OptionName::Start, OptionName::Dims];
+pub const MAKE_OPTIONS: [OptionName; 3] = [OptionName::Volume, OptionName::Start, OptionName::Dims];
 
 /// The options of `trial`.
-const TRIAL_OPTIONS: [OptionName; 6] = [
+pub const TRIAL_OPTIONS: [OptionName; 6] = [
     OptionName::Start,
     OptionName::Dims,
     OptionName::Low,
@@ -78,15 +82,15 @@ const TRIAL_OPTIONS: [OptionName; 6] = [
     OptionName::Workers,
 ];
 
+/// The options of `show`.
+pub const SHOW_OPTIONS: [OptionName; 1] = [OptionName::Tree];
+
 /// The settings of `basins`, where these options are settings.
 pub fn basins_values<'a>(options: &Options<'a>) -> Option<BasinsValues<'a>>
-    ensures { (given : List Given) → AreSlots given options.now.values → MatchOption result
+    ensures { (given : List Given) → AreSlots given options.now.values → AreOptionsOf basins_options given → MatchOption result
         ((settings : BasinsSettings) → ¬ (GivesBasins given settings))
         (λ values. GivesBasins given (record { volume = values.volume.now; labels = values.labels.now; low = values.low })) }
 {
-    if !options.are(&BASINS_OPTIONS) {
-        return None;
-    }
     let Some(volume) = options.name(OptionName::Volume) else {
         return None;
     };
@@ -108,19 +112,16 @@ pub fn basins_values<'a>(options: &Options<'a>) -> Option<BasinsValues<'a>>
 
 /// The settings of `show`, where these options are settings: the name of a tree file.
 pub fn show_values<'a>(options: &Options<'a>) -> Option<&'a str>
-    ensures { (given : List Given) → AreSlots given options.now.values → MatchOption result
+    ensures { (given : List Given) → AreSlots given options.now.values → AreOptionsOf show_options given → MatchOption result
         ((tree : List ℕ) → ¬ (GivesShow given tree))
         (λ tree. GivesShow given tree.now) }
 {
-    if !options.are(&[OptionName::Tree]) {
-        return None;
-    }
     options.name(OptionName::Tree)
 }
 
 /// The settings of `segment`, where these options are settings.
 pub fn segment_values<'a>(options: &Options<'a>) -> Option<SegmentValues<'a>>
-    ensures { (given : List Given) → AreSlots given options.now.values → MatchOption result
+    ensures { (given : List Given) → AreSlots given options.now.values → AreOptionsOf segment_options given → MatchOption result
         ((settings : SegmentSettings) → ¬ (GivesSegment given settings))
         (λ values. GivesSegment given (record {
           volume = values.volume.now;
@@ -132,9 +133,6 @@ pub fn segment_values<'a>(options: &Options<'a>) -> Option<SegmentValues<'a>>
           workers = values.workers;
         })) }
 {
-    if !options.are(&SEGMENT_OPTIONS) {
-        return None;
-    }
     let Some(volume) = options.name(OptionName::Volume) else {
         return None;
     };
@@ -172,13 +170,10 @@ pub fn segment_values<'a>(options: &Options<'a>) -> Option<SegmentValues<'a>>
 
 /// The settings of `make`, where these options are settings.
 pub fn make_values<'a>(options: &Options<'a>) -> Option<MakeValues<'a>>
-    ensures { (given : List Given) → AreSlots given options.now.values → MatchOption result
+    ensures { (given : List Given) → AreSlots given options.now.values → AreOptionsOf make_options given → MatchOption result
         ((settings : MakeSettings) → ¬ (GivesMake given settings))
         (λ values. GivesMake given (record { volume = values.volume.now; start = values.start; axes = values.dims })) }
 {
-    if !options.are(&MAKE_OPTIONS) {
-        return None;
-    }
     let Some(volume) = options.name(OptionName::Volume) else {
         return None;
     };
@@ -197,7 +192,7 @@ pub fn make_values<'a>(options: &Options<'a>) -> Option<MakeValues<'a>>
 
 /// The settings of `trial`, where these options are settings.
 pub fn trial_values(options: &Options<'_>) -> Option<TrialValues>
-    ensures { (given : List Given) → AreSlots given options.now.values → MatchOption result
+    ensures { (given : List Given) → AreSlots given options.now.values → AreOptionsOf trial_options given → MatchOption result
         ((settings : TrialSettings) → ¬ (GivesTrial given settings))
         (λ values. GivesTrial given (record {
           start = values.start;
@@ -208,9 +203,6 @@ pub fn trial_values(options: &Options<'_>) -> Option<TrialValues>
           workers = values.workers;
         })) }
 {
-    if !options.are(&TRIAL_OPTIONS) {
-        return None;
-    }
     let Some(start) = options.number(OptionName::Start, 0, GREATEST_START) else {
         return None;
     };

@@ -154,7 +154,7 @@ fn count_refused(alloc: Global, lines: &[&str]) -> Result<u32, Trouble> {
 }
 
 /// Lines of which each has one fault.
-static FAULTY: [&str; 20] = [
+static FAULTY: [&str; 22] = [
     "",
     "shows --tree t",
     "show",
@@ -163,6 +163,8 @@ static FAULTY: [&str; 20] = [
     "show --tree -",
     "show --tree t --tree t",
     "show --tree t u",
+    "show --tre t",
+    "show --tree t --help",
     "show -- --tree t",
     "show --low 1 --tree t",
     "basins --volume v --labels l --low 256",
@@ -181,7 +183,7 @@ static FAULTY: [&str; 20] = [
 fn words_that_are_no_settings_are_refused(rt: HostRuntime) -> Result<(), Trouble> {
     let alloc = rt.alloc();
     assert!(rt; matches!(read_words(alloc, &[]), Err(WordsFault::NoSettings)));
-    assert_eq!(rt; count_refused(alloc, &FAULTY)?, 20);
+    assert_eq!(rt; count_refused(alloc, &FAULTY)?, 22);
     assert_eq!(rt; count_refused(alloc, &["show --tree t"])?, 0);
     Ok(())
 }

@@ -1,45 +1,77 @@
-ghost use Rattle.std.specs.Prelude.{MatchResult, codes};
-ghost use Rattle.command_words.specs.Jobs.{SpellsJob, RefusesWords};
-ghost use Rattle.command_words.specs.Made.{MakesJob};
+ghost use Rattle.std.specs.Prelude.{◌∷◌, ◌↔◌, All, IsTrue, codes, string_bytes};
+ghost use Rattle.command_words.specs.Jobs.{AnswersWords};
 ghost use Rattle.command_words.specs.Texts.{texts};
+ghost use Rattle.command_words.specs.Words.{IsBare};
 
 use crate::job::{Job, WordsFault};
-use crate::options::{Options, read_options};
-use crate::settings::{basins_values, make_values, segment_values, show_values, trial_values};
+use crate::parser::parse;
+use crate::settings::{
+    BASINS_OPTIONS, MAKE_OPTIONS, SEGMENT_OPTIONS, SHOW_OPTIONS, TRIAL_OPTIONS, basins_values,
+    make_values, segment_values, show_values, trial_values,
+};
+use crate::values::cut_at;
 use std::alloc::Global;
 
-/// What the words after the program's name ask for. Words that are no settings are refused without
-/// taking memory.
+/// What the words after the program's name ask for. Where the first word is no command, or another is
+/// bare, the words are refused without taking memory.
 pub fn read_words(alloc: Global, words: &[String]) -> Result<Job, WordsFault>
-    ensures { MatchResult result (SpellsJob (texts words.now)) (RefusesWords (texts words.now)) }
+    ensures { AnswersWords (texts words.now) result }
 {
     let [command, others @ ..] = words else {
         return Err(WordsFault::NoSettings);
     };
-    let Some(options) = read_options(others) else {
+    if !are_plain(others) {
         return Err(WordsFault::NoSettings);
-    };
-    read_command(alloc, command.as_str(), &options)
+    }
+    read_command(alloc, command.as_str(), others)
 }
 
-/// The job of a command with these options.
-fn read_command(alloc: Global, command: &str, options: &Options<'_>) -> Result<Job, WordsFault>
-    ensures { MakesJob command.now options.now.values result }
+/// Whether each word may stand among options.
+fn are_plain(words: &[String]) -> bool
+    ensures { IsTrue result ↔ All (λ word. ¬ (IsBare (string_bytes word))) words.now }
+{
+    for word in words {
+        if !is_plain(word.as_str()) {
+            return false;
+        }
+    }
+    true
+}
+
+/// Whether a word may stand among options: it is not `--`, nor a name with a `=` and nothing after it.
+fn is_plain(word: &str) -> bool
+    ensures { IsTrue result ↔ ¬ (IsBare word.now) }
+{
+    let Some(option) = word.strip_prefix("--") else {
+        return true;
+    };
+    match cut_at(option, '=') {
+        Some((_, value)) => !value.is_empty(),
+        None => !option.is_empty(),
+    }
+}
+
+/// The job of a command, whose options these words are.
+fn read_command(alloc: Global, command: &str, words: &[String]) -> Result<Job, WordsFault>
+    requires { All (λ word. ¬ (IsBare word)) (texts words.now) }
+    ensures { AnswersWords (command.now ∷ texts words.now) result }
 {
     match command {
-        "basins" => read_basins(alloc, options),
-        "segment" => read_segment(alloc, options),
-        "make" => read_make(alloc, options),
-        "trial" => read_trial(options),
-        "show" => read_show(alloc, options),
+        "basins" => read_basins(alloc, words),
+        "segment" => read_segment(alloc, words),
+        "make" => read_make(alloc, words),
+        "trial" => read_trial(alloc, words),
+        "show" => read_show(alloc, words),
         _ => Err(WordsFault::NoSettings),
     }
 }
 
-fn read_basins(alloc: Global, options: &Options<'_>) -> Result<Job, WordsFault>
-    ensures { MakesJob (codes "basins") options.now.values result }
+fn read_basins(alloc: Global, words: &[String]) -> Result<Job, WordsFault>
+    requires { All (λ word. ¬ (IsBare word)) (texts words.now) }
+    ensures { AnswersWords (codes "basins" ∷ texts words.now) result }
 {
-    let Some(values) = basins_values(options) else {
+    let options = parse(alloc, "basins", &BASINS_OPTIONS, words)?;
+    let Some(values) = basins_values(&options) else {
         return Err(WordsFault::NoSettings);
     };
     let volume = String::from_str(alloc, values.volume)?;
@@ -51,10 +83,12 @@ fn read_basins(alloc: Global, options: &Options<'_>) -> Result<Job, WordsFault>
     })
 }
 
-fn read_segment(alloc: Global, options: &Options<'_>) -> Result<Job, WordsFault>
-    ensures { MakesJob (codes "segment") options.now.values result }
+fn read_segment(alloc: Global, words: &[String]) -> Result<Job, WordsFault>
+    requires { All (λ word. ¬ (IsBare word)) (texts words.now) }
+    ensures { AnswersWords (codes "segment" ∷ texts words.now) result }
 {
-    let Some(values) = segment_values(options) else {
+    let options = parse(alloc, "segment", &SEGMENT_OPTIONS, words)?;
+    let Some(values) = segment_values(&options) else {
         return Err(WordsFault::NoSettings);
     };
     let volume = String::from_str(alloc, values.volume)?;
@@ -71,10 +105,12 @@ fn read_segment(alloc: Global, options: &Options<'_>) -> Result<Job, WordsFault>
     })
 }
 
-fn read_make(alloc: Global, options: &Options<'_>) -> Result<Job, WordsFault>
-    ensures { MakesJob (codes "make") options.now.values result }
+fn read_make(alloc: Global, words: &[String]) -> Result<Job, WordsFault>
+    requires { All (λ word. ¬ (IsBare word)) (texts words.now) }
+    ensures { AnswersWords (codes "make" ∷ texts words.now) result }
 {
-    let Some(values) = make_values(options) else {
+    let options = parse(alloc, "make", &MAKE_OPTIONS, words)?;
+    let Some(values) = make_values(&options) else {
         return Err(WordsFault::NoSettings);
     };
     let volume = String::from_str(alloc, values.volume)?;
@@ -85,10 +121,12 @@ fn read_make(alloc: Global, options: &Options<'_>) -> Result<Job, WordsFault>
     })
 }
 
-fn read_trial(options: &Options<'_>) -> Result<Job, WordsFault>
-    ensures { MakesJob (codes "trial") options.now.values result }
+fn read_trial(alloc: Global, words: &[String]) -> Result<Job, WordsFault>
+    requires { All (λ word. ¬ (IsBare word)) (texts words.now) }
+    ensures { AnswersWords (codes "trial" ∷ texts words.now) result }
 {
-    let Some(values) = trial_values(options) else {
+    let options = parse(alloc, "trial", &TRIAL_OPTIONS, words)?;
+    let Some(values) = trial_values(&options) else {
         return Err(WordsFault::NoSettings);
     };
     let chunk = values.chunk;
@@ -102,10 +140,12 @@ fn read_trial(options: &Options<'_>) -> Result<Job, WordsFault>
     })
 }
 
-fn read_show(alloc: Global, options: &Options<'_>) -> Result<Job, WordsFault>
-    ensures { MakesJob (codes "show") options.now.values result }
+fn read_show(alloc: Global, words: &[String]) -> Result<Job, WordsFault>
+    requires { All (λ word. ¬ (IsBare word)) (texts words.now) }
+    ensures { AnswersWords (codes "show" ∷ texts words.now) result }
 {
-    let Some(tree) = show_values(options) else {
+    let options = parse(alloc, "show", &SHOW_OPTIONS, words)?;
+    let Some(tree) = show_values(&options) else {
         return Err(WordsFault::NoSettings);
     };
     let tree = String::from_str(alloc, tree)?;

@@ -1,28 +1,23 @@
-use Rattle.std.proofs.Common.{[], ◌∷◌, true≢false, sym, refl, ◌∙◌}
+use Rattle.std.proofs.Common.{sym, ◌∙◌}
 use Rattle.std.proofs.lemmas.Slice.Eq.{bytes_eq-Decides}
-use Rattle.command_words.specs.declared.options.OptionName.TheVariants.{Volume, Labels, Tree, Low, Merge, Chunk, Workers}
-use Rattle.command_words.proofs.OptionsOf.{given_just, just_options, same_name}
+use Rattle.command_words.proofs.GivenValues.{same_name}
 use Rattle.command_words.proofs.settings.segment_values.Goals as goal
 use Rattle.command_words.proofs.settings.segment_values.Goals.{then-eq-via-then-eq, then-eq-via-else-eq+then-eq-2, then-eq-via-else-eq+else-eq-2+then-eq-3}
 
-pub returns-then-not-are : goal.returns-then-not-are
-returns-then-not-are c = λ given slots settings gives.
-    true≢false (sym (c.if-not-are.ensures.1 (given_just (Volume ∷ Labels ∷ Tree ∷ Low ∷ Merge ∷ Chunk ∷ Workers ∷ []) given c.args.options.now.values slots gives.options_are)))
-
 pub returns-in_default : goal.returns-in_default
-returns-in_default c = λ given slots settings gives. c.in_default.ensures given slots settings.volume gives.volume
+returns-in_default c = λ given slots are settings gives. c.in_default.ensures given slots settings.volume gives.volume
 
 pub returns-in_default-name : goal.returns-in_default-name
-returns-in_default-name c = λ given slots settings gives. c.in_default-name.ensures given slots settings.labels gives.labels
+returns-in_default-name c = λ given slots are settings gives. c.in_default-name.ensures given slots settings.labels gives.labels
 
 pub returns-in_default-name-2 : goal.returns-in_default-name-2
-returns-in_default-name-2 c = λ given slots settings gives. c.in_default-name-2.ensures given slots settings.tree gives.tree
+returns-in_default-name-2 c = λ given slots are settings gives. c.in_default-name-2.ensures given slots settings.tree gives.tree
 
 pub returns-then-eq : goal.returns-then-eq
-returns-then-eq c = λ given slots settings gives.
-    let volume = same_name given slots.known_once _ settings.volume c.in-Some.volume.now gives.volume (c.in-Some.ensures given slots) in
-    let labels = same_name given slots.known_once _ settings.labels c.in-Some-name.labels.now gives.labels (c.in-Some-name.ensures given slots) in
-    let tree = same_name given slots.known_once _ settings.tree c.in-Some-name-2.tree.now gives.tree (c.in-Some-name-2.ensures given slots) in
+returns-then-eq c = λ given slots are settings gives.
+    let volume = same_name given slots.once _ settings.volume c.in-Some.volume.now gives.volume (c.in-Some.ensures given slots) in
+    let labels = same_name given slots.once _ settings.labels c.in-Some-name.labels.now gives.labels (c.in-Some-name.ensures given slots) in
+    let tree = same_name given slots.once _ settings.tree c.in-Some-name-2.tree.now gives.tree (c.in-Some-name-2.ensures given slots) in
     elim c.then-eq.branch [
       | then-eq-via-then-eq w ↦ gives.volume_labels (volume
           ∙ (bytes_eq-Decides c.in-Some.volume.now c.in-Some-name.labels.now).0 (sym w.if-eq.ensures) ∙ sym labels)
@@ -33,19 +28,19 @@ returns-then-eq c = λ given slots settings gives.
     ]
 
 pub returns-in_default-number : goal.returns-in_default-number
-returns-in_default-number c = λ given slots settings gives. c.in_default-number.ensures.number given slots settings.low gives.low
+returns-in_default-number c = λ given slots are settings gives. c.in_default-number.ensures.number given slots settings.low gives.low
 
 pub returns-in_default-fraction : goal.returns-in_default-fraction
-returns-in_default-fraction c = λ given slots settings gives. c.in_default-fraction.ensures given slots settings.threshold gives.merge
+returns-in_default-fraction c = λ given slots are settings gives. c.in_default-fraction.ensures given slots settings.threshold gives.merge
 
 pub returns-in_default-sizes : goal.returns-in_default-sizes
-returns-in_default-sizes c = λ given slots settings gives. c.in_default-sizes.ensures given slots settings.chunk gives.chunk
+returns-in_default-sizes c = λ given slots are settings gives. c.in_default-sizes.ensures given slots settings.chunk gives.chunk
 
 pub returns-in_default-number-2 : goal.returns-in_default-number-2
-returns-in_default-number-2 c = λ given slots settings gives. c.in_default-number-2.ensures.number given slots settings.workers gives.workers
+returns-in_default-number-2 c = λ given slots are settings gives. c.in_default-number-2.ensures.number given slots settings.workers gives.workers
 
 pub returns : goal.returns
-returns c = λ given slots.
+returns c = λ given slots are.
     let volume = c.in-Some.ensures given slots in
     let labels = c.in-Some-name.ensures given slots in
     let tree = c.in-Some-name-2.ensures given slots in
@@ -54,7 +49,7 @@ returns c = λ given slots.
     let chunk = c.in-Some-sizes.ensures given slots in
     let workers = c.in-Some-number-2.ensures.number given slots in
     record {
-      options_are = just_options (Volume ∷ Labels ∷ Tree ∷ Low ∷ Merge ∷ Chunk ∷ Workers ∷ []) given c.args.options.now.values slots (c.if-not-are.ensures.0 refl);
+      options_are = are;
       volume = volume;
       labels = labels;
       tree = tree;

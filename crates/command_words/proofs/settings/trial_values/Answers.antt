@@ -1,33 +1,26 @@
-use Rattle.std.proofs.Common.{[], ◌∷◌, true≢false, sym, refl}
-use Rattle.command_words.specs.declared.options.OptionName.TheVariants.{Start, Dims, Low, Merge, Chunk, Workers}
-use Rattle.command_words.proofs.OptionsOf.{given_just, just_options}
 use Rattle.command_words.proofs.settings.trial_values.Goals as goal
 
-pub returns-then-not-are : goal.returns-then-not-are
-returns-then-not-are c = λ given slots settings gives.
-    true≢false (sym (c.if-not-are.ensures.1 (given_just (Start ∷ Dims ∷ Low ∷ Merge ∷ Chunk ∷ Workers ∷ []) given c.args.options.now.values slots gives.options_are)))
-
 pub returns-in_default : goal.returns-in_default
-returns-in_default c = λ given slots settings gives. c.in_default.ensures.number given slots settings.start gives.start
+returns-in_default c = λ given slots are settings gives. c.in_default.ensures.number given slots settings.start gives.start
 
 pub returns-in_default-axes : goal.returns-in_default-axes
-returns-in_default-axes c = λ given slots settings gives. c.in_default-axes.ensures given slots settings.axes gives.dims
+returns-in_default-axes c = λ given slots are settings gives. c.in_default-axes.ensures given slots settings.axes gives.dims
 
 pub returns-in_default-number : goal.returns-in_default-number
-returns-in_default-number c = λ given slots settings gives. c.in_default-number.ensures.number given slots settings.low gives.low
+returns-in_default-number c = λ given slots are settings gives. c.in_default-number.ensures.number given slots settings.low gives.low
 
 pub returns-in_default-fraction : goal.returns-in_default-fraction
-returns-in_default-fraction c = λ given slots settings gives. c.in_default-fraction.ensures given slots settings.threshold gives.merge
+returns-in_default-fraction c = λ given slots are settings gives. c.in_default-fraction.ensures given slots settings.threshold gives.merge
 
 pub returns-in_default-sizes : goal.returns-in_default-sizes
-returns-in_default-sizes c = λ given slots settings gives. c.in_default-sizes.ensures given slots settings.chunk gives.chunk
+returns-in_default-sizes c = λ given slots are settings gives. c.in_default-sizes.ensures given slots settings.chunk gives.chunk
 
 pub returns-in_default-number-2 : goal.returns-in_default-number-2
-returns-in_default-number-2 c = λ given slots settings gives. c.in_default-number-2.ensures.number given slots settings.workers gives.workers
+returns-in_default-number-2 c = λ given slots are settings gives. c.in_default-number-2.ensures.number given slots settings.workers gives.workers
 
 pub returns : goal.returns
-returns c = λ given slots. record {
-  options_are = just_options (Start ∷ Dims ∷ Low ∷ Merge ∷ Chunk ∷ Workers ∷ []) given c.args.options.now.values slots (c.if-not-are.ensures.0 refl);
+returns c = λ given slots are. record {
+  options_are = are;
   start = c.in-Some.ensures.number given slots;
   dims = c.in-Some-axes.ensures given slots;
   low = c.in-Some-number.ensures.number given slots;
