@@ -1,7 +1,9 @@
 -- Each status of the program has its cause: the clauses of the top call, from what its run did.
-use Rattle.std.proofs.Common.{◌≡◌, ◌≢◌, ℕ, true, ◌⊎◌, ◌↔◌, List, Option, Some, None, IsSome, IfSome, refl, sym, ap, subst, ◌∙◌, inl, inr}
+use Rattle.std.proofs.Common.{◌≡◌, ◌≢◌, ℕ, true, ◌⊎◌, Contains, lit≤, List, Option, Some, None, IsSome, IfSome, refl, sym, ap, subst, ◌∙◌, inl, inr}
+use Rattle.std.specs.List.{flat_map}
 use Rattle.agglo_model.specs.Count.{Rose}
-use Rattle.command_words.specs.Words.{Task, Basins, Segment, Make, Trial, Show, Spells, AreNoSettings, OneTask, SegmentSettings, MakeSettings, TrialSettings}
+use Rattle.command_words.specs.Words.{Task, Basins, Segment, Make, Trial, Show, Spells, AreNoSettings, MayBeSettings, OneTask, commands, command_of, given_words, SegmentSettings, MakeSettings, TrialSettings}
+use Rattle.command_words.proofs.BareWords.{plain_words}
 use Rattle.seg_io.specs.Desk.{DeskState, File, file_named}
 use Rattle.refusals.specs.declared.refusal.Refusal.{Refusal}
 use Rattle.refusals.specs.declared.refusal.Refusal.TheVariants.{Memory, Words, Volume, Leaves, Input, Output, Tree}
@@ -118,19 +120,56 @@ done_not_flawed words s t P one f status n =
 
 -- ---- the run ended for a cause: status 2 comes where the words are none
 
-spelled_not_none : (words : List (List ℕ)) (task : Task) (n : ℕ) → Spells words task → n ≢ 2 → (n ≡ 2) ↔ AreNoSettings words
-spelled_not_none words task n spelled apart = (λ e. absurd (apart e), λ none. absurd (none task spelled))
+only_none : (refusal : Refusal) (words : List (List ℕ)) (s t : DeskState) → RefusesRun words refusal s t → status_of refusal ≡ 2
+    → AreNoSettings words
+only_none Memory words s t f e = cc e
+only_none Words words s t f e = f.0
+only_none (Volume fault) words s t f e = cc e
+only_none (Leaves leaves) words s t f e = cc e
+only_none Input words s t f e = cc e
+only_none Output words s t f e = cc e
+only_none (Tree fault) words s t f e = cc e
 
-settings_judged : (refusal : Refusal) (words : List (List ℕ)) (s t : DeskState) → RefusesRun words refusal s t
-    → (status_of refusal ≡ 2) ↔ AreNoSettings words
-settings_judged Memory words s t (inl f) = spelled_not_none words f.task 1 f.spelled (λ e. cc e)
-settings_judged Memory words s t (inr f) = spelled_not_none words f.task 1 f.spelled (λ e. cc e)
-settings_judged Words words s t f = (λ _. f.0, λ _. refl)
-settings_judged (Volume fault) words s t f = spelled_not_none words f.task 3 f.spelled (λ e. cc e)
-settings_judged (Leaves leaves) words s t f = spelled_not_none words f.task 4 f.spelled (λ e. cc e)
-settings_judged Input words s t f = spelled_not_none words f.task 5 f.spelled (λ e. cc e)
-settings_judged Output words s t f = spelled_not_none words f.task 6 f.spelled (λ e. cc e)
-settings_judged (Tree fault) words s t f = spelled_not_none words f.task 7 f.spelled (λ e. cc e)
+-- words that are none, or memory was lacking to read them
+none_judged : (refusal : Refusal) (words : List (List ℕ)) (s t : DeskState) → RefusesRun words refusal s t → AreNoSettings words
+    → (status_of refusal ≡ 2) ⊎ ((status_of refusal ≡ 1) × MayBeSettings words)
+none_judged Memory words s t (inl f) none = inr (refl, f.may_be)
+none_judged Memory words s t (inr f) none = absurd (none f.task f.spelled)
+none_judged Words words s t f none = inl refl
+none_judged (Volume fault) words s t f none = absurd (none f.task f.spelled)
+none_judged (Leaves leaves) words s t f none = absurd (none f.task f.spelled)
+none_judged Input words s t f none = absurd (none f.task f.spelled)
+none_judged Output words s t f none = absurd (none f.task f.spelled)
+none_judged (Tree fault) words s t f none = absurd (none f.task f.spelled)
+
+-- settings begin with a command, and none of their words is bare
+known_command : (task : Task) → Contains commands (command_of task)
+known_command (Basins settings) = (0, lit≤ tt, refl)
+known_command (Segment settings) = (1, lit≤ tt, refl)
+known_command (Make settings) = (2, lit≤ tt, refl)
+known_command (Trial settings) = (3, lit≤ tt, refl)
+known_command (Show tree) = (4, lit≤ tt, refl)
+
+pub spelled_may_be : (words : List (List ℕ)) (task : Task) → Spells words task → MayBeSettings words
+spelled_may_be words task spelled = record {
+  command = command_of task;
+  others = flat_map given_words spelled.options;
+  words_are = spelled.words_are;
+  known = known_command task;
+  none_bare = plain_words (command_of task) (flat_map given_words spelled.options) task
+      (subst (λ (w : List (List ℕ)). Spells w task) spelled.words_are spelled);
+}
+
+glance_judged : (refusal : Refusal) (words : List (List ℕ)) (s t : DeskState) → RefusesRun words refusal s t → ¬ (MayBeSettings words)
+    → status_of refusal ≡ 2
+glance_judged Memory words s t (inl f) bad = absurd (bad f.may_be)
+glance_judged Memory words s t (inr f) bad = absurd (bad (spelled_may_be words f.task f.spelled))
+glance_judged Words words s t f bad = refl
+glance_judged (Volume fault) words s t f bad = absurd (bad (spelled_may_be words f.task f.spelled))
+glance_judged (Leaves leaves) words s t f bad = absurd (bad (spelled_may_be words f.task f.spelled))
+glance_judged Input words s t f bad = absurd (bad (spelled_may_be words f.task f.spelled))
+glance_judged Output words s t f bad = absurd (bad (spelled_may_be words f.task f.spelled))
+glance_judged (Tree fault) words s t f bad = absurd (bad (spelled_may_be words f.task f.spelled))
 
 -- ---- a flaw is found
 
@@ -352,8 +391,17 @@ misses_judged refusal words s m t f told has = subst (λ (n : ℕ). IfSome s.fil
 -- ---- the same of the status that was answered
 
 pub no_settings_told : (refusal : Refusal) (words : List (List ℕ)) (s t : DeskState) (status : ℕ) → status ≡ status_of refusal
-    → RefusesRun words refusal s t → (status ≡ 2) ↔ AreNoSettings words
-no_settings_told refusal words s t status is f = subst (λ (n : ℕ). (n ≡ 2) ↔ AreNoSettings words) (sym is) (settings_judged refusal words s t f)
+    → RefusesRun words refusal s t → status ≡ 2 → AreNoSettings words
+no_settings_told refusal words s t status is f e = only_none refusal words s t f (sym is ∙ e)
+
+pub words_told : (refusal : Refusal) (words : List (List ℕ)) (s t : DeskState) (status : ℕ) → status ≡ status_of refusal
+    → RefusesRun words refusal s t → AreNoSettings words → (status ≡ 2) ⊎ ((status ≡ 1) × MayBeSettings words)
+words_told refusal words s t status is f none =
+    subst (λ (n : ℕ). (n ≡ 2) ⊎ ((n ≡ 1) × MayBeSettings words)) (sym is) (none_judged refusal words s t f none)
+
+pub glance_told : (refusal : Refusal) (words : List (List ℕ)) (s t : DeskState) (status : ℕ) → status ≡ status_of refusal
+    → RefusesRun words refusal s t → ¬ (MayBeSettings words) → status ≡ 2
+glance_told refusal words s t status is f bad = is ∙ glance_judged refusal words s t f bad
 
 pub input_told : (refusal : Refusal) (words : List (List ℕ)) (s m t : DeskState) (status : ℕ) → status ≡ status_of refusal
     → RefusesRun words refusal s m → Told refusal m t → status ≡ 5 → Rose s.input_faults t.input_faults

@@ -1,6 +1,6 @@
 -- What a run of the program does, by its status.
 use Rattle.std.specs.Prelude.{◌≡◌, ℕ, ◌⊎◌, List, Some, None}
-use Rattle.command_words.specs.Words.{Task, Spells, AreNoSettings}
+use Rattle.command_words.specs.Words.{Task, Spells, AreNoSettings, MayBeSettings}
 use Rattle.seg_io.specs.Desk.{DeskState, CanOpen, appended, FailsAfterWriting}
 use Rattle.seg_io.specs.declared.port.Port.TheVariants.{Labels, Tree as TreePort, Volume as VolumePort, Trouble}
 use Rattle.refusals.specs.declared.refusal.Refusal.{Refusal}
@@ -41,10 +41,9 @@ pub record RefusesSettings (words : List (List ℕ)) (refusal : Refusal) (old ne
   pub spelled : Spells words task
   pub refused : RefusesTask task refusal old new
 
--- the words spell a task, and there was no memory to keep their names
+-- the words may be settings, and there was no memory to read them
 pub record LacksMemoryForWords (words : List (List ℕ)) (old new : DeskState) : Type 0 where
-  pub task : Task
-  pub spelled : Spells words task
+  pub may_be : MayBeSettings words
   pub after : new ≡ old
 
 -- a run ended for this cause

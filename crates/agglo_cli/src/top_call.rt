@@ -1,8 +1,8 @@
-ghost use Rattle.std.specs.Prelude.{◌≡◌, ◌≢◌, ℕ, ◌⊎◌, ◌↔◌, List, IfSome, MatchResult};
+ghost use Rattle.std.specs.Prelude.{◌≡◌, ◌≢◌, ℕ, ◌⊎◌, List, IfSome, MatchResult};
 ghost use Rattle.agglo_model.specs.Count.{Rose};
 ghost use Rattle.command_words.specs.Jobs.{task_of};
 ghost use Rattle.command_words.specs.Texts.{texts};
-ghost use Rattle.command_words.specs.Words.{Task, Basins, Segment, Make, Trial, Show, SegmentSettings, MakeSettings, TrialSettings, Spells, AreNoSettings, AreSomeSizes};
+ghost use Rattle.command_words.specs.Words.{Task, Basins, Segment, Make, Trial, Show, SegmentSettings, MakeSettings, TrialSettings, Spells, AreNoSettings, MayBeSettings, AreSomeSizes};
 ghost use Rattle.refusals.specs.Refusal.{status_of};
 ghost use Rattle.agglo_cli.specs.Flaws.{HasInput, ComesFirst};
 ghost use Rattle.agglo_cli.specs.Run.{IsFresh, FinishesTask, RefusesTask, RefusesRun, Told, Finishes, Refuses, NamesAFlawedInput, NamesAGoodInput, WritesNothing, IsStatus};
@@ -54,10 +54,12 @@ pub fn agglo<R: Threads + Sync, D: Desk, G: Gate>(
     // The answer was written, whole and nothing else.
     ensures done { result ≡ 0 → Finishes (texts words.now) (D.state desk.old) (D.state desk.new) }
 
-    // Every refusal has its cause, and its line was printed; want of memory is free, but words that are none take
-    // none.
+    // Every refusal has its cause, and its line was printed. Want of memory is free, but not for words that are
+    // refused at once: there is none, or the first is no command, or another is bare.
     ensures refused { result ≢ 0 → Refuses (texts words.now) result (D.state desk.old) (D.state desk.new) }
-    ensures no_settings { (result ≡ 2) ↔ AreNoSettings (texts words.now) }
+    ensures no_settings { result ≡ 2 → AreNoSettings (texts words.now) }
+    ensures words { AreNoSettings (texts words.now) → (result ≡ 2) ⊎ ((result ≡ 1) × MayBeSettings (texts words.now)) }
+    ensures at_once { ¬ (MayBeSettings (texts words.now)) → result ≡ 2 }
     ensures input { result ≡ 5 → Rose (D.state desk.old).input_faults (D.state desk.new).input_faults }
     ensures output { result ≡ 6 → Rose (D.state desk.old).output_faults (D.state desk.new).output_faults }
 

@@ -1,4 +1,4 @@
-use Rattle.agglo_cli.proofs.Explained.{is_segmented, is_made, is_tried, done_not_flawed, no_settings_told, input_told, output_told, quiet_told, exactly_told, complete_told, misses_judged}
+use Rattle.agglo_cli.proofs.Explained.{is_segmented, is_made, is_tried, done_not_flawed, no_settings_told, words_told, glance_told, spelled_may_be, input_told, output_told, quiet_told, exactly_told, complete_told, misses_judged}
 use Rattle.agglo_cli.proofs.top_call.agglo.Goals as goal
 
 pub returns-in-Ok-clause-segmented : goal.returns-in-Ok-clause-segmented
@@ -10,11 +10,20 @@ returns-in-Ok-clause-made g c = λ _. is_made _ _ _ c.one_task.ensures c.in-Ok.e
 pub returns-in-Ok-clause-tried : goal.returns-in-Ok-clause-tried
 returns-in-Ok-clause-tried g c = λ _. is_tried _ _ _ c.one_task.ensures c.in-Ok.ensures
 
+pub returns-in-Ok-clause-at_once : goal.returns-in-Ok-clause-at_once
+returns-in-Ok-clause-at_once g c = λ bad. absurd (bad (spelled_may_be _ _ c.in-Ok.ensures.spelled))
+
 pub returns-in-Ok-clause-exactly : goal.returns-in-Ok-clause-exactly
 returns-in-Ok-clause-exactly g c = λ status n. done_not_flawed _ _ _ _ c.one_task.ensures c.in-Ok.ensures status n
 
 pub returns-in-Err-clause-no_settings : goal.returns-in-Err-clause-no_settings
 returns-in-Err-clause-no_settings g c = no_settings_told c.in-Err.refusal _ _ _ _ c.refuse.ensures.status c.in-Err.ensures
+
+pub returns-in-Err-clause-words : goal.returns-in-Err-clause-words
+returns-in-Err-clause-words g c = words_told c.in-Err.refusal _ _ _ _ c.refuse.ensures.status c.in-Err.ensures
+
+pub returns-in-Err-clause-at_once : goal.returns-in-Err-clause-at_once
+returns-in-Err-clause-at_once g c = glance_told c.in-Err.refusal _ _ _ _ c.refuse.ensures.status c.in-Err.ensures
 
 pub returns-in-Err-clause-input : goal.returns-in-Err-clause-input
 returns-in-Err-clause-input g c = input_told c.in-Err.refusal _ _ _ _ _ c.refuse.ensures.status c.in-Err.ensures c.refuse.ensures.told
