@@ -1,18 +1,22 @@
 -- Words that are bare stand in no settings.
-use Rattle.std.proofs.Common.{◌≡◌, ◌≢◌, ℕ, zero, suc, List, [], ◌∷◌, ◌++◌, length, All, ◌==◌, ◌↔◌, Bool, false, true≢false, IsTrue, not, get_or, take, drop, ◌-◌, ◌≤◌, String, string_bytes, Contains, codes, refl, sym, ap, ◌∙◌, subst, arith}
+use Rattle.std.proofs.Common.{◌≡◌, ◌≢◌, ℕ, zero, suc, List, [], ◌∷◌, ◌++◌, length, All, ◌==◌, ◌↔◌, Bool, false, true≢false, IsTrue, not, get_or, take, drop, ◌-◌, ◌≤◌, String, string_bytes, Contains, codes, refl, sym, ap, ◌∙◌, subst, arith, Result, Ok, Err}
 use Rattle.std.specs.List.{flat_map}
 use Rattle.std.specs.declared.alloc.Global.{Global}
 use Rattle.std.proofs.lemmas.List.{take_all}
 use Rattle.command_words.specs.Texts.{texts}
 use Rattle.std.proofs.lemmas.Bool.Decides.{nat_tests}
-use Rattle.command_words.specs.Words.{Given, given_words, IsBare, Dashes, NoValue, IsName, Task, Spells, AreNoSettings, command_of}
+use Rattle.command_words.specs.Words.{Given, given_words, IsBare, Dashes, NoValue, IsName, Task, Spells, AreNoSettings, MayBeSettings, command_of}
 use Rattle.command_words.specs.Parts.{IsWithout}
 use Rattle.command_words.specs.Slots.{option_names}
 use Rattle.command_words.proofs.Cuts.{cut_once, no_parts}
 use Rattle.command_words.proofs.Slots.{all_tail}
 use Rattle.command_words.proofs.GivenWords.{dashed, known_without, OneWord, TwoWords, form_of, known_filled}
 use Rattle.command_words.proofs.PlainValues.{values_are_names}
-use Rattle.command_words.proofs.WholeWords.{gives_known, tail_is}
+use Rattle.command_words.specs.Jobs.{task_of, AnswersWords}
+use Rattle.command_words.specs.declared.job.Job.{Job}
+use Rattle.command_words.specs.declared.job.WordsFault.{WordsFault}
+use Rattle.command_words.specs.declared.job.WordsFault.TheVariants.{NoSettings, Memory}
+use Rattle.command_words.proofs.WholeWords.{command_known, gives_known, tail_is}
 
 same_dashed : (a b : List ℕ) → dashed a ≡ dashed b → a ≡ b
 same_dashed a b e = cc e
@@ -98,6 +102,19 @@ pub plain_words : (command : List ℕ) (words : List (List ℕ)) (task : Task) �
 plain_words command words task s =
     none_bare s.options (gives_known s.options task s.gives).known (values_are_names s.options task s.gives) words
     (tail_is command (command_of task) words (flat_map given_words s.options) s.words_are)
+
+-- settings may be settings, so words that may not be are refused
+pub at_once : (r : Result Job WordsFault) (words : List (List ℕ)) → AnswersWords words r → ¬ (MayBeSettings words) → r ≡ Err NoSettings
+at_once (Ok job) words s never = absurd (never (record {
+  command = command_of (task_of job);
+  others = flat_map given_words s.options;
+  words_are = s.words_are;
+  known = command_known (task_of job);
+  none_bare = none_bare s.options (gives_known s.options (task_of job) s.gives).known (values_are_names s.options (task_of job) s.gives)
+      (flat_map given_words s.options) refl;
+}))
+at_once (Err NoSettings) words s never = refl
+at_once (Err Memory) words may never = absurd (never may)
 
 -- ---- the words as the program has them
 

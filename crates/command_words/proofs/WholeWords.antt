@@ -73,6 +73,13 @@ gives_options given (Make settings) gives = gives.options_are
 gives_options given (Trial settings) gives = gives.options_are
 gives_options given (Show tree) gives = gives.options_are
 
+pub command_known : (task : Task) → Contains commands (command_of task)
+command_known (Basins settings) = (0, omega arith, refl)
+command_known (Segment settings) = (1, omega arith, refl)
+command_known (Make settings) = (2, omega arith, refl)
+command_known (Trial settings) = (3, omega arith, refl)
+command_known (Show tree) = (4, omega arith, refl)
+
 -- ---- the values in one reading are those in another
 
 slot_same : (given options : List Given) (name : List ℕ) (slot : Option (Bor (List ℕ))) → SamePairs given options

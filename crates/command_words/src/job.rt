@@ -50,7 +50,7 @@ pub enum WordsFault {
     /// The words are no settings of any command.
     #[error("words not understood")]
     NoSettings,
-    /// There was no memory for the names of files.
+    /// There was no memory to find the options, or for the names of files.
     #[error("out of memory")]
     Memory,
 }

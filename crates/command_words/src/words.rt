@@ -1,7 +1,7 @@
-ghost use Rattle.std.specs.Prelude.{◌∷◌, ◌↔◌, All, IsTrue, codes, string_bytes};
+ghost use Rattle.std.specs.Prelude.{◌≡◌, ◌∷◌, ◌↔◌, Err, All, IsTrue, codes, string_bytes};
 ghost use Rattle.command_words.specs.Jobs.{AnswersWords};
 ghost use Rattle.command_words.specs.Texts.{texts};
-ghost use Rattle.command_words.specs.Words.{IsBare};
+ghost use Rattle.command_words.specs.Words.{IsBare, MayBeSettings};
 
 use crate::job::{Job, WordsFault};
 use crate::parser::parse;
@@ -12,10 +12,11 @@ use crate::settings::{
 use crate::values::cut_at;
 use std::alloc::Global;
 
-/// What the words after the program's name ask for. Where the first word is no command, or another is
-/// bare, the words are refused without taking memory.
+/// What the words after the program's name ask for. Words are refused without taking memory where
+/// there is none, the first is no command, or another is `--` or a name with a `=` and nothing after it.
 pub fn read_words(alloc: Global, words: &[String]) -> Result<Job, WordsFault>
-    ensures { AnswersWords (texts words.now) result }
+    ensures answer { AnswersWords (texts words.now) result }
+    ensures at_once { ¬ (MayBeSettings (texts words.now)) → result ≡ Err WordsFault.NoSettings }
 {
     let [command, others @ ..] = words else {
         return Err(WordsFault::NoSettings);
