@@ -1,9 +1,10 @@
-ghost use Rattle.std.specs.Prelude.{◌<◌, IfOk};
+ghost use Rattle.std.specs.Prelude.{◌≡◌, ◌<◌, ◌≤◌, IfOk, length};
 ghost use Rattle.agglo_model.specs.Cutting.{node_count};
 ghost use Rattle.parent_join.specs.Kids.{graphs_of};
 ghost use Rattle.chunk_run.specs.Turns.{AreFromChildren, IsStartOf, TakesTurn};
 
 use agglo_model::Memory;
+use chunk_tree::Kids;
 use mutual_merge::{Settled, settle};
 use parent_join::{join, residues_fit};
 use region_graph::{Graph, Residue, Site, of_leaf};
@@ -39,6 +40,19 @@ fn start_graph(alloc: Global, site: &Site, m: u32, kids: Vec<Residue>) -> Result
     if m < site.cutting().leaves() {
         of_leaf(alloc, site, m)
     } else {
-        join(alloc, site, m, kids)
+        join(alloc, site, m, kids_of(kids))
     }
+}
+
+/// The residues of a node's children as its kids. While a node waits for its turn a Vec holds them, which takes
+/// less room than the places for eight.
+fn kids_of(residues: Vec<Residue>) -> Kids<Residue>
+    requires { length residues.items ≤ 8 }
+    ensures { result ≡ residues.items }
+{
+    let mut kids = Kids::none();
+    for residue in residues {
+        kids.push(residue);
+    }
+    kids
 }

@@ -1,2 +1,3 @@
 pub mod Flaw
 pub mod Levels
+pub mod Kids

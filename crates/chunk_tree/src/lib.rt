@@ -5,8 +5,10 @@
 #![tactic(auto)]
 
 mod cutting;
+mod kids;
 mod level;
 #[cfg(test)]
 mod tests;
 
 pub use cutting::{CutFault, Cutting};
+pub use kids::Kids;

@@ -1,4 +1,4 @@
-use crate::{CutFault, Cutting};
+use crate::{CutFault, Cutting, Kids};
 use seg_base::{Cell, Dims};
 use std::test::Fail;
 
@@ -99,4 +99,20 @@ fn a_size_of_zero_is_told_before_too_many_leaves(rt: HostRuntime) -> Result<(), 
     let dims = Dims::new(64, 64, 65)?;
     assert_eq!(rt; Cutting::new(&dims, [1, 0, 0]), Err(CutFault::ChunkZero(1)));
     Ok(())
+}
+
+/// How many of three kids there are, and the first two as they are taken.
+fn three_kids() -> (u32, Option<u32>, Option<u32>) {
+    let mut kids = Kids::none();
+    kids.push(5);
+    kids.push(7);
+    kids.push(9);
+    let count = kids.len();
+    let first = kids.take_first();
+    (count, first, kids.take_first())
+}
+
+#[test]
+fn kids_are_taken_in_order(rt: HostRuntime) {
+    assert_eq!(rt; three_kids(), (3, Some(5), Some(7)));
 }

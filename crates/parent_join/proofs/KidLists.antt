@@ -1,5 +1,5 @@
 -- The lists of regions and edges of a node's children, child by child.
-use Rattle.std.proofs.Common.{◌≡◌, ℕ, suc, ◌+◌, ◌*◌, ◌≤◌, Bool, true, false, cond, List, [], ◌∷◌, ◌++◌, length, get_or, ◌==◌, zero-add, refl, sym, ap, ◌∙◌, subst, append_assoc, arith}
+use Rattle.std.proofs.Common.{◌≡◌, ℕ, suc, ◌+◌, ◌*◌, ◌<◌, ◌≤◌, Bool, true, false, cond, List, [], ◌∷◌, ◌++◌, length, get_or, ◌==◌, zero-add, refl, sym, ap, ◌∙◌, subst, append_assoc, length-append, arith}
 use Rattle.std.specs.Prelude.{All, bit_and, map}
 use Rattle.std.proofs.Math.Nat.{mul-le-mul}
 use Rattle.std.proofs.lemmas.List.{append-nil, length_push, length-map, map-append}
@@ -77,6 +77,38 @@ faces-kept c m kid =
     and_faces (is_low_artificial c m) (is_high_artificial c m)
     (λ axis. get_or (low_corner c kid) axis 0 == get_or (low_corner c m) axis 0)
     (λ axis. get_or (high_corner c kid) axis 0 == get_or (high_corner c m) axis 0)
+
+-- some of all kids are gathered, and these are left
+pub record AreGatheredBut (c : Chunking) (m i : ℕ) (all left : List Residue) (regions : List Region) (edges : List GraphEdge) : Type 0 where
+  pub done : List Residue
+  pub split : all ≡ done ++ left
+  pub gathered : AreGathered c m i done regions edges
+
+pub none_but : (c : Chunking) (m : ℕ) (all : List Residue) → AreGatheredBut c m 0 all all [] []
+none_but c m all = record { done = []; split = refl; gathered = none_gathered c m }
+
+pub gathered_next : (c : Chunking) (m i : ℕ) (all left rest : List Residue) (regions : List Region) (edges : List GraphEdge) (kid : Residue)
+    (faces : ℕ) → AreGatheredBut c m i all left regions edges → left ≡ kid ∷ rest → IsGraph kid.graph → faces ≡ kept_faces c m (child c m i)
+    → AreGatheredBut c m (i + 1) all rest (regions ++ map (with_faces_in faces) kid.graph.regions) (edges ++ kid.graph.edges)
+gathered_next c m i all left rest regions edges kid faces so_far front is faces_are = record {
+  done = so_far.done ++ kid ∷ [];
+  split = so_far.split ∙ ap (λ l. so_far.done ++ l) front ∙ sym (append_assoc so_far.done (kid ∷ []) rest);
+  gathered = gathered_more c m i so_far.done regions edges kid faces so_far.gathered is faces_are;
+}
+
+pub gathered_all : (c : Chunking) (m i : ℕ) (all left : List Residue) (regions : List Region) (edges : List GraphEdge)
+    → AreGatheredBut c m i all left regions edges → left ≡ [] → AreGathered c m i all regions edges
+gathered_all c m i all left regions edges so_far none =
+    subst (λ ks. AreGathered c m i ks regions edges)
+    (sym (so_far.split ∙ ap (λ l. so_far.done ++ l) none ∙ append-nil so_far.done)) so_far.gathered
+
+-- a kid that is left is not the last of all
+pub one_left : (c : Chunking) (m i : ℕ) (all left rest : List Residue) (regions : List Region) (edges : List GraphEdge) (kid : Residue)
+    → AreGatheredBut c m i all left regions edges → left ≡ kid ∷ rest → i < length all
+one_left c m i all left rest regions edges kid so_far front =
+    let parts = ap length so_far.split ∙ length-append so_far.done left in
+    let some : length left ≡ suc (length rest) = ap length front in
+    omega (arith, parts, some, so_far.gathered.number)
 
 -- ---- how many children there are
 

@@ -5,7 +5,7 @@ ghost use Rattle.agglo_model.specs.RegionGraph.{IsGraph};
 ghost use Rattle.parent_join.specs.Kids.{graphs_of, shared_faces, with_faces_in};
 
 use agglo_model::Memory;
-use chunk_tree::Cutting;
+use chunk_tree::{Cutting, Kids};
 use region_graph::{Parts, Region, Residue, Site};
 use seg_base::Cell;
 use std::alloc::Global;
@@ -15,19 +15,30 @@ pub(crate) fn gather_kids(
     alloc: Global,
     site: &Site,
     m: u32,
-    kids: Vec<Residue>,
+    mut kids: Kids<Residue>,
 ) -> Result<Parts, Memory>
     requires node { m < node_count site.now.cutting }
-    requires one_each { length kids.items ≡ child_count site.now.cutting m }
-    ensures regions { IfOk result (λ parts. parts.regions.items ≡ kept_regions site.now.cutting m 0 (graphs_of kids.items)) }
-    ensures edges { IfOk result (λ parts. parts.edges.items ≡ kept_edges (graphs_of kids.items)) }
-    ensures graphs { IfOk result (λ _. All IsGraph (graphs_of kids.items)) }
+    requires one_each { length kids ≡ child_count site.now.cutting m }
+    ensures regions { IfOk result (λ parts. parts.regions.items ≡ kept_regions site.now.cutting m 0 (graphs_of kids)) }
+    ensures edges { IfOk result (λ parts. parts.edges.items ≡ kept_edges (graphs_of kids)) }
+    ensures graphs { IfOk result (λ _. All IsGraph (graphs_of kids)) }
+{
+    take_all(alloc, site, m, &mut kids)
+}
+
+/// The same, taken out of the kids.
+fn take_all(alloc: Global, site: &Site, m: u32, kids: &mut Kids<Residue>) -> Result<Parts, Memory>
+    requires node { m < node_count site.now.cutting }
+    requires one_each { length kids.old ≡ child_count site.now.cutting m }
+    ensures regions { IfOk result (λ parts. parts.regions.items ≡ kept_regions site.now.cutting m 0 (graphs_of kids.old)) }
+    ensures edges { IfOk result (λ parts. parts.edges.items ≡ kept_edges (graphs_of kids.old)) }
+    ensures graphs { IfOk result (λ _. All IsGraph (graphs_of kids.old)) }
 {
     let cutting = site.cutting();
     let mut regions = Vec::new(alloc);
     let mut edges = Vec::new(alloc);
     let mut i = 0;
-    for kid in kids {
+    while let Some(kid) = kids.take_first() {
         let parts = kid.graph.into_parts();
         let faces = faces_kept(cutting, m, cutting.child(m, i));
         add_regions(&mut regions, &parts.regions, faces)?;

@@ -4,7 +4,7 @@ ghost use Rattle.parent_join.specs.Kids.{FitsInto, KidsFit, graphs_of};
 
 use crate::join;
 use agglo_model::laws_of_nodes::basins_are_connected;
-use chunk_tree::Cutting;
+use chunk_tree::{Cutting, Kids};
 use mean_fraction::Threshold;
 use region_graph::{Graph, Residue, Site, of_leaf};
 use seg_base::Dims;
@@ -53,17 +53,17 @@ fn leaves_of(
     site: &Site,
     m: u32,
     left_out: Option<u32>,
-) -> Result<Vec<Residue>, Fail>
+) -> Result<Kids<Residue>, Fail>
     requires { m < node_count site.now.cutting }
-    ensures one_each { IfOk result (λ kids. length kids.items ≡ child_count site.now.cutting m) }
-    ensures fit { IfOk result (λ kids. KidsFit site.now.grid site.now.cutting m (graphs_of kids.items)) }
+    ensures one_each { IfOk result (λ kids. length kids ≡ child_count site.now.cutting m) }
+    ensures fit { IfOk result (λ kids. KidsFit site.now.grid site.now.cutting m (graphs_of kids)) }
 {
     let cutting = site.cutting();
-    let mut kids = Vec::new(alloc);
+    let mut kids = Kids::none();
     for i in 0..cutting.child_count(m) {
         let node = cutting.child(m, i);
         let graph = graph_of(alloc, site, node, left_out)?;
-        kids.push(Residue { node, graph })?;
+        kids.push(Residue { node, graph });
     }
     Ok(kids)
 }

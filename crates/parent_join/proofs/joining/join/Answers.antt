@@ -1,9 +1,10 @@
-use Rattle.std.proofs.Common.{◌≡◌, ◌≤◌, ◌++◌, sym, ap, ◌∙◌, subst}
-use Rattle.std.specs.Prelude.{filter}
+use Rattle.std.proofs.Common.{◌≡◌, ◌<◌, ◌≤◌, ◌++◌, sym, ap, ◌∙◌, subst}
+use Rattle.std.specs.Prelude.{AllPairs, filter}
 use Rattle.std.proofs.lemmas.List.{length-map}
 use Rattle.agglo_model.specs.Joining.{IsJoined, kept_edges}
 use Rattle.agglo_model.specs.PairOrder.{most_edges}
 use Rattle.region_graph.specs.Lists.{AreNamed, AreOrdered, count_of}
+use Rattle.agglo_model.specs.RegionGraph.{Region}
 use Rattle.region_graph.specs.declared.graph.Residue.{Residue}
 use Rattle.parent_join.specs.Across.{are_named}
 use Rattle.parent_join.specs.Kids.{graphs_of}
@@ -14,11 +15,14 @@ use Rattle.parent_join.proofs.joining.join.Goals as goal
 pub join_regions-requires : goal.join_regions-requires
 join_regions-requires c =
     subst AreNamed (sym c.in_ok-regions.ensures.regions)
-    (kept_named c.args.site.now.cutting c.args.m (graphs_of c.args.kids.items) (λ k below. (c.requires.fit k below).named))
+    (kept_named c.args.site.now.cutting c.args.m (graphs_of c.args.kids) (λ k below. (c.requires.fit k below).named))
+
+pub add_named-requires : goal.add_named-requires
+add_named-requires c = subst (AllPairs (λ (r : Region) s. r.name < s.name)) (sym c.deref-2.ensures.value) c.in_ok-regions-2.ensures.ascend
 
 -- the edges that are summed up last
 all_edges : (c : goal.In_ok-add_named) → c.add_named.new.edges.items
-    ≡ kept_edges (graphs_of c.args.kids.items) ++ filter (are_named c.in_ok-regions-2.regions.items) c.in_ok-across.across.items
+    ≡ kept_edges (graphs_of c.args.kids) ++ filter (are_named c.in_ok-regions-2.regions.items) c.in_ok-across.across.items
 all_edges c =
     c.in_ok-add_named.ensures
     ∙ (λ i. c.in_ok-regions.ensures.edges i ++ filter (are_named (c.deref-2.ensures.value i)) (c.deref.ensures.value i))
@@ -26,7 +30,7 @@ all_edges c =
 pub sum_contacts-requires-2-clause-within : goal.sum_contacts-requires-2-clause-within
 sum_contacts-requires-2-clause-within c =
     let s = c.args.site.now in
-    let kids = graphs_of c.args.kids.items in
+    let kids = graphs_of c.args.kids in
     let site = c.in_ok-gather_across.ensures.site in
     let summed = c.in_ok-across.ensures in
     let regions = c.in_ok-regions-2.regions.items in
@@ -37,7 +41,7 @@ sum_contacts-requires-2-clause-within c =
     subst (λ es. count_of es ≤ most_edges) (sym (all_edges c))
     (all_few s.grid s.cutting site.chunking c.args.m c.requires.node (inner s.cutting site.chunking c.args.m c.requires.node c.requires.parent)
     s.labels kids regions crossing site.whole.limits
-    (length-map c.args.kids.items (λ (kid : Residue). kid.graph) ∙ c.requires.one_each) c.requires.fit
+    (length-map c.args.kids (λ (kid : Residue). kid.graph) ∙ c.requires.one_each) c.requires.fit
     (found_across s.grid s.cutting c.args.m s.labels kids c.in_ok-regions.field-0.regions.items c.in_ok-regions.field-0.edges.items
     c.in_ok-gather_across.field-0.items crossing found summed.contacts summed.touching)
     summed.ascend summed.ordered)
@@ -45,7 +49,7 @@ sum_contacts-requires-2-clause-within c =
 pub sum_contacts-requires-2-clause-ordered : goal.sum_contacts-requires-2-clause-ordered
 sum_contacts-requires-2-clause-ordered c =
     let s = c.args.site.now in
-    let kids = graphs_of c.args.kids.items in
+    let kids = graphs_of c.args.kids in
     let site = c.in_ok-gather_across.ensures.site in
     subst AreOrdered (sym (all_edges c))
     (all_ordered s.grid s.cutting site.chunking c.args.m c.requires.node (inner s.cutting site.chunking c.args.m c.requires.node c.requires.parent)
@@ -54,7 +58,7 @@ sum_contacts-requires-2-clause-ordered c =
 pub of-requires-clause-graph : goal.of-requires-clause-graph
 of-requires-clause-graph c =
     let s = c.args.site.now in
-    let kids = graphs_of c.args.kids.items in
+    let kids = graphs_of c.args.kids in
     let regions = c.in_ok-regions-2.regions.items in
     let crossing = c.in_ok-across.across.items in
     let edges = c.in_ok-edges.edges.items in
@@ -73,7 +77,7 @@ of-requires-clause-graph c =
 pub of-requires-clause-within : goal.of-requires-clause-within
 of-requires-clause-within c =
     let s = c.args.site.now in
-    let kids = graphs_of c.args.kids.items in
+    let kids = graphs_of c.args.kids in
     let site = c.in_ok-gather_across.ensures.site in
     let summed = c.in_ok-across.ensures in
     let regions = c.in_ok-regions-2.regions.items in
@@ -87,7 +91,7 @@ of-requires-clause-within c =
     subst (λ n. n ≤ most_edges) (sym (c.in_ok-edges.ensures.count ∙ ap count_of all))
     (all_few s.grid s.cutting site.chunking c.args.m c.requires.node (inner s.cutting site.chunking c.args.m c.requires.node c.requires.parent)
     s.labels kids regions crossing site.whole.limits
-    (length-map c.args.kids.items (λ (kid : Residue). kid.graph) ∙ c.requires.one_each) c.requires.fit
+    (length-map c.args.kids (λ (kid : Residue). kid.graph) ∙ c.requires.one_each) c.requires.fit
     (found_across s.grid s.cutting c.args.m s.labels kids c.in_ok-regions.field-0.regions.items c.in_ok-regions.field-0.edges.items
     c.in_ok-gather_across.field-0.items crossing found summed.contacts summed.touching)
     summed.ascend summed.ordered)
@@ -95,7 +99,7 @@ of-requires-clause-within c =
 pub returns : goal.returns
 returns c =
     let s = c.args.site.now in
-    let kids = graphs_of c.args.kids.items in
+    let kids = graphs_of c.args.kids in
     let regions = c.in_ok-regions-2.regions.items in
     let crossing = c.in_ok-across.across.items in
     let edges = c.in_ok-edges.edges.items in
