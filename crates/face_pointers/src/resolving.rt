@@ -8,6 +8,7 @@ use agglo_model::Memory;
 use chunk_tree::Cutting;
 use seg_base::Labels;
 use std::alloc::Global;
+use std::thread::Threads;
 use steepest_ascent::{Ends, climb};
 use volume_file::Volume;
 
@@ -26,8 +27,10 @@ pub fn climb_leaf(
     climb(alloc, vol, low, &cutting.cell(leaf))
 }
 
-/// The basin labels of a volume, from the ends of the ascents within the leaves of a cutting.
-pub fn resolve(
+/// The basin labels of a volume, from the ends of the ascents within the leaves of a cutting. They are
+/// written in several threads.
+pub fn resolve<R: Threads + Sync>(
+    rt: &R,
     alloc: Global,
     vol: &Volume,
     low: u8,
@@ -39,8 +42,8 @@ pub fn resolve(
     ensures axes { IfOk result (λ labels. labels.axes ≡ vol.now.axes) }
     ensures basins { IfOk result (λ labels. AreBasins vol.now low labels.labels) }
 {
-    let mut labels = Vec::from_elem(alloc, 0, vol.dims().voxels() as usize)?;
-    let exits = Exits::of(vol, low, cutting, pieces);
-    exits.settle_all(&mut labels);
+    let mut exits = Exits::of(vol, low, cutting, pieces);
+    let mut labels = exits.prepare(rt, alloc)?;
+    exits.fill_all(rt, &mut labels);
     Ok(Labels::of(vol.dims(), labels))
 }

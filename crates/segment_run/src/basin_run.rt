@@ -13,7 +13,7 @@ use std::thread::Threads;
 use steepest_ascent::{Ends, whole_basins};
 use volume_file::Volume;
 
-/// The basin labels of a volume, worked out leaf by leaf of a cutting, the leaves in several threads.
+/// The basin labels of a volume, worked out leaf by leaf of a cutting, in several threads.
 pub fn basins<R: Threads + Sync>(
     rt: &R,
     alloc: Global,
@@ -29,7 +29,7 @@ pub fn basins<R: Threads + Sync>(
         return whole_basins(alloc, vol, low);
     }
     let pieces = climb_all(rt, alloc, vol, low, cutting)?;
-    resolve(alloc, vol, low, cutting, pieces)
+    resolve(rt, alloc, vol, low, cutting, pieces)
 }
 
 /// The ends of the ascents within each leaf, in order of number.
