@@ -1,7 +1,8 @@
 -- Pieces whose ends tell of their voxels.
-use Rattle.std.proofs.Common.{◌≡◌, ◌≢◌, ℕ, ◌<◌, List, length, get_or, set, sym, ◌∙◌, subst, subst₂, ◌⊎◌, inl, inr, get_or-set_same, get_or-set_other}
+use Rattle.std.proofs.Common.{◌≡◌, ◌≢◌, ℕ, ◌<◌, List, [], ◌∷◌, ◌++◌, arith, eq-or-lt_of_le, length, get_or, set, sym, ◌∙◌, subst, subst₂, ◌⊎◌, inl, inr, get_or-set_same, get_or-set_other}
 use Rattle.std.proofs.Math.ListN.{length-set}
 use Rattle.std.proofs.lemmas.Bool.{cases_eq}
+use Rattle.std.proofs.lemmas.List.{length_push, get_or_push, get_or_append_left}
 use Rattle.agglo_model.specs.Axes.{Axes, voxel_count}
 use Rattle.agglo_model.specs.Boxes.{box_grid, box_index}
 use Rattle.agglo_model.specs.Cell.{IsInBox}
@@ -12,7 +13,7 @@ use Rattle.steepest_ascent.specs.Progress.{IsLabelOf}
 use Rattle.steepest_ascent.specs.declared.ends.End.{End}
 use Rattle.steepest_ascent.specs.declared.ends.End.TheVariants.{Background, Root}
 use Rattle.face_pointers.specs.Exits.{TellsOf}
-use Rattle.face_pointers.specs.Pieces.{AreClimbs, AreParts, IsCut, IsLeafClimb, IsPiece, Parts, leaf_grid, leaf_voxel}
+use Rattle.face_pointers.specs.Pieces.{AreClimbs, AreParts, AreVoxels, IsCut, IsLeafClimb, IsPiece, Parts, leaf_grid, leaf_voxel}
 use Rattle.face_pointers.proofs.Leaves.{leaf_box_place, leaf_voxel-lt}
 use Rattle.face_pointers.proofs.Telling.{tells_of_end}
 
@@ -95,3 +96,11 @@ parts_after p pieces m i name piece h leaf is lt right = record {
         (subst (λ q. IsPiece p m q) (sym at) (piece_after p m i name piece (piece_read p pieces m piece h leaf is) lt right))
     pick k d below (inr ne) =
         subst (λ q. IsPiece p k q) (sym (get_or-set_other pieces m k new d ne)) (h.each k d below)
+
+-- voxels of the volume, and one more
+pub voxels_more : (p : Parts) (voxels : List ℕ) (v : ℕ) → AreVoxels p voxels → v < voxel_count p.grid.axes → AreVoxels p (voxels ++ v ∷ [])
+voxels_more p voxels v are lt k below = pick (eq-or-lt_of_le (omega (arith, length_push voxels v)))
+  where
+    pick : (k ≡ length voxels) ⊎ (k < length voxels) → get_or (voxels ++ v ∷ []) k 0 < voxel_count p.grid.axes
+    pick (inl last) = subst (λ u. u < voxel_count p.grid.axes) (sym (get_or_push voxels v 0 k (sym last))) lt
+    pick (inr less) = subst (λ u. u < voxel_count p.grid.axes) (sym (get_or_append_left voxels (v ∷ []) 0 k less)) (are k less)

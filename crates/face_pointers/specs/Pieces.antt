@@ -1,5 +1,5 @@
 -- A volume in pieces, with the ends of the ascents within each.
-use Rattle.std.specs.Prelude.{◌≡◌, ℕ, ◌+◌, ◌<◌, List, length, slice_index_or}
+use Rattle.std.specs.Prelude.{◌≡◌, ℕ, ◌+◌, ◌<◌, List, length, slice_index, slice_index_or}
 use Rattle.agglo_model.specs.Axes.{Axes, voxel_count}
 use Rattle.agglo_model.specs.Basins.{label_of}
 use Rattle.agglo_model.specs.Boxes.{box_grid, box_voxel}
@@ -55,3 +55,7 @@ pub record AreParts (p : Parts) (pieces : List CellEnds) : Type 0 where
 -- the first labels of the list, as many as this, are those of the voxels from `first` on
 abbrev pub AreLabelsFrom : Parts → ℕ → List ℕ → ℕ → Type 0
 AreLabelsFrom p first labels many = (k : ℕ) → k < many → IsLabelOf p.grid p.low (first + k) (label_of labels k)
+
+-- these are voxels of the volume
+abbrev pub AreVoxels : Parts → List ℕ → Type 0
+AreVoxels p voxels = (k : ℕ) → k < length voxels → slice_index voxels k < voxel_count p.grid.axes

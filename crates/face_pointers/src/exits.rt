@@ -1,10 +1,10 @@
-ghost use Rattle.std.specs.Prelude.{◌≡◌, ℕ, ◌+◌, ◌<◌, ◌≤◌, EachIndex, IfOk, length};
+ghost use Rattle.std.specs.Prelude.{◌≡◌, ℕ, ◌+◌, ◌<◌, ◌≤◌, EachIndex, IfOk, OnOk, length, slice_index_or};
 ghost use Rattle.agglo_model.specs.Axes.{voxel_count};
 ghost use Rattle.agglo_model.specs.Basins.{label_of};
 ghost use Rattle.agglo_model.specs.Cutting.{cells_at};
 ghost use Rattle.agglo_model.specs.Grid.{IsWhole};
 ghost use Rattle.face_pointers.specs.Exits.{TellsOf};
-ghost use Rattle.face_pointers.specs.Pieces.{AreClimbs, AreLabelsFrom, leaf_grid};
+ghost use Rattle.face_pointers.specs.Pieces.{AreClimbs, AreLabelsFrom, AreVoxels, leaf_grid};
 ghost use Rattle.face_pointers.specs.Runs.{IsRunFrom};
 ghost use Rattle.steepest_ascent.specs.Progress.{IsLabelOf};
 
@@ -13,7 +13,7 @@ use rayon::current_num_threads;
 use seg_base::Dims;
 use std::alloc::{AllocError, Global};
 use std::marker::Model;
-use std::thread::{Threads, for_each_chunk_mut, join_mut};
+use std::thread::{Threads, for_each_chunk_mut, map_chunks};
 use steepest_ascent::{End, Ends};
 use volume_file::Volume;
 
@@ -74,80 +74,128 @@ impl<'a> Exits<'a> {
         }
     }
 
-    /// Follows all ascents, and meanwhile makes, in another thread, a list with room for a label of each voxel.
-    pub(crate) fn prepare<R: Threads + Sync>(
+    /// Follows the ascents that lead from leaf to leaf and on to another, so that afterwards no exit leads to a
+    /// voxel whose end is an exit.
+    pub(crate) fn follow_all<R: Threads + Sync>(
         &mut self,
         rt: &R,
         alloc: Global,
-    ) -> Result<Vec<u32>, AllocError>
-        ensures same { self.new ≡ self.old }
-        ensures room { IfOk result (λ labels. length labels.items ≡ voxel_count self.old.grid.axes) }
-    {
-        let voxels = self.vol.dims().voxels() as usize;
-        let ((), labels) = join_mut(
-            rt,
-            &mut || -> ()
-                ensures { self.exit.now ≡ self.entry.now }
-            { self.follow_all() },
-            &mut || -> Result<Vec<u32>, AllocError>
-                ensures { IfOk result (λ labels. length labels.items ≡ voxels) }
-            { Vec::from_elem(alloc, 0, voxels) },
-        );
-        labels
-    }
-
-    /// Follows the ascents from leaf to leaf, so that afterwards each exit leads to a voxel whose end is none.
-    /// All exits lead to neighbours of voxels on the faces of a leaf.
-    fn follow_all(&mut self)
+    ) -> Result<(), AllocError>
         ensures { self.new ≡ self.old }
     {
-        for leaf in 0..self.cutting.leaves() {
-            self.follow_leaf(leaf);
-        }
-    }
-
-    /// The same for the exits of a leaf.
-    fn follow_leaf(&mut self, leaf: u32)
-        requires { leaf < cells_at self.old.cutting 0 }
-        ensures { self.new ≡ self.old }
-    {
-        let grid = *self.pieces[leaf as usize].grid();
-        for z in 0..grid.nz() {
-            for y in 0..grid.ny() {
-                self.follow_row(leaf, &grid, y, z);
+        let found = self.search(rt, alloc)?;
+        for ways in &found {
+            match ways {
+                Ok(ways) => self.follow_each(ways),
+                Err(error) => return Err(*error),
             }
         }
+        Ok(())
+    }
+
+    /// The same for the ascents from these voxels.
+    fn follow_each(&mut self, voxels: &[u32])
+        requires { AreVoxels self.old voxels.now }
+        ensures { self.new ≡ self.old }
+    {
+        for v in voxels {
+            self.follow(*v);
+        }
+    }
+
+    /// The voxels to which exits lead and whose end is an exit, looked for in several threads.
+    fn search<R: Threads + Sync>(
+        &self,
+        rt: &R,
+        alloc: Global,
+    ) -> Result<Vec<Result<Vec<u32>, AllocError>>, AllocError>
+        ensures { IfOk result (λ found. (k : ℕ) (d : _) → k < length found.items
+            → IfOk (slice_index_or found.items k d) (λ ways. AreVoxels self.now ways.items)) }
+    {
+        let pieces = self.pieces.as_slice();
+        let size = pieces.len().div_ceil(current_num_threads(rt)).max(1);
+        let search = |first: usize, part: &[Ends]| -> Result<Vec<u32>, AllocError>
+            requires { first + length part.now ≤ cells_at self.now.cutting 0 }
+            ensures { IfOk result (λ ways. AreVoxels self.entry.now ways.items) }
+        { self.search_leaves(alloc, first, part.len()) };
+        map_chunks(rt, alloc, pieces, size, &search)
+    }
+
+    /// The same for the exits of the leaves from `first` on, of which there are so many.
+    fn search_leaves(
+        &self,
+        alloc: Global,
+        first: usize,
+        many: usize,
+    ) -> Result<Vec<u32>, AllocError>
+        requires { first + many ≤ cells_at self.now.cutting 0 }
+        ensures { IfOk result (λ ways. AreVoxels self.now ways.items) }
+    {
+        let pieces = &self.pieces;
+        let mut ways = Vec::new(alloc);
+        for leaf in first..first + many {
+            self.search_leaf(&mut ways, leaf, pieces[leaf].grid())?;
+        }
+        Ok(ways)
+    }
+
+    /// Adds to the ways those from a leaf, which is this grid. All exits lead to neighbours of voxels on its
+    /// faces.
+    fn search_leaf(&self, ways: &mut Vec<u32>, leaf: usize, grid: &Dims) -> Result<(), AllocError>
+        requires leaf { leaf < cells_at self.now.cutting 0 }
+        requires grid { grid.now ≡ leaf_grid self.now leaf }
+        requires voxels { AreVoxels self.now ways.old.items }
+        ensures { OnOk result (AreVoxels self.now ways.new.items) }
+    {
+        for z in 0..grid.nz() {
+            for y in 0..grid.ny() {
+                self.search_row(ways, leaf, grid, y, z)?;
+            }
+        }
+        Ok(())
     }
 
     /// The same for the voxels on faces of a leaf in the row at these coordinates.
-    fn follow_row(&mut self, leaf: u32, grid: &Dims, y: u32, z: u32)
-        requires leaf { leaf < cells_at self.old.cutting 0 }
-        requires grid { grid.now ≡ leaf_grid self.old leaf }
+    fn search_row(
+        &self,
+        ways: &mut Vec<u32>,
+        leaf: usize,
+        grid: &Dims,
+        y: u32,
+        z: u32,
+    ) -> Result<(), AllocError>
+        requires leaf { leaf < cells_at self.now.cutting 0 }
+        requires grid { grid.now ≡ leaf_grid self.now leaf }
         requires in_y { y < grid.now.ny }
         requires in_z { z < grid.now.nz }
-        ensures { self.new ≡ self.old }
+        requires voxels { AreVoxels self.now ways.old.items }
+        ensures { OnOk result (AreVoxels self.now ways.new.items) }
     {
         let width = grid.nx();
         let first = grid.voxel(0, y, z);
         if 0 < y && y + 1 < grid.ny() && 0 < z && z + 1 < grid.nz() {
-            self.follow_exit(leaf, first);
-            self.follow_exit(leaf, first + (width - 1));
-            return;
+            self.search_exit(ways, leaf, first)?;
+            return self.search_exit(ways, leaf, first + (width - 1));
         }
         for x in 0..width {
-            self.follow_exit(leaf, first + x);
+            self.search_exit(ways, leaf, first + x)?;
         }
+        Ok(())
     }
 
     /// The same for voxel `i` of a leaf.
-    fn follow_exit(&mut self, leaf: u32, i: u32)
-        requires leaf { leaf < cells_at self.old.cutting 0 }
-        requires voxel { i < voxel_count (leaf_grid self.old leaf) }
-        ensures { self.new ≡ self.old }
+    fn search_exit(&self, ways: &mut Vec<u32>, leaf: usize, i: u32) -> Result<(), AllocError>
+        requires leaf { leaf < cells_at self.now.cutting 0 }
+        requires voxel { i < voxel_count (leaf_grid self.now leaf) }
+        requires voxels { AreVoxels self.now ways.old.items }
+        ensures { OnOk result (AreVoxels self.now ways.new.items) }
     {
-        if let End::Exit(next) = self.pieces[leaf as usize].get(i) {
-            self.follow(next);
+        if let End::Exit(next) = self.pieces[leaf].get(i) {
+            if let End::Exit(_) = self.end(next) {
+                ways.push(next)?;
+            }
         }
+        Ok(())
     }
 
     /// Gives voxel `v`, and those to which the way from it leads, the name of the basin as their end.
