@@ -1,9 +1,9 @@
 -- The cells of nodes as boxes of the volume, and the leaf that holds a voxel.
-use Rattle.std.proofs.Common.{◌≡◌, ℕ, suc, ◌+◌, ◌*◌, ◌<◌, ◌≤◌, min, sym, ap, ◌∙◌, subst, arith}
-use Rattle.agglo_model.specs.Axes.{voxel_at, voxel_count, coordinate}
+use Rattle.std.proofs.Common.{◌≡◌, ℕ, suc, ◌+◌, ◌*◌, ◌<◌, min, ap, arith}
+use Rattle.agglo_model.specs.Axes.{voxel_count}
 use Rattle.agglo_model.specs.Boxes.{IsBoxOf}
 use Rattle.agglo_model.specs.Cell.{IsInBox}
-use Rattle.agglo_model.specs.Cutting.{Chunking, IsChunking, cell_length, cells_at, first_node, last_level, leaf_of, level_grid, level_of, low_corner, high_corner, node_at, node_count}
+use Rattle.agglo_model.specs.Cutting.{Chunking, IsChunking, cell_length, cells_at, last_level, leaf_of, level_grid, level_of, low_corner, high_corner, node_at, node_count}
 use Rattle.agglo_model.proofs.Places.{voxel_at-lt}
 use Rattle.agglo_model.proofs.Levels.{cell_length_pos, first_node_le}
 use Rattle.agglo_model.proofs.NodeCells.{cell_begins, node_place, voxel_cell}

@@ -1,5 +1,6 @@
 pub mod Telling
 pub mod Leaves
-pub mod Filled
+pub mod Pieces
+pub mod Runs
 pub mod LeafBoxes
 pub mod Standings

@@ -10,4 +10,4 @@ mod resolving;
 #[cfg(test)]
 mod tests;
 
-pub use resolving::{climb_leaf, resolve};
+pub use resolving::{climb_leaf, resolve, resolve_into};

@@ -1,4 +1,5 @@
-ghost use Rattle.std.specs.Prelude.{◌≡◌, ◌<◌, IfOk};
+ghost use Rattle.std.specs.Prelude.{◌≡◌, ◌<◌, IfOk, length};
+ghost use Rattle.agglo_model.specs.Axes.{voxel_count};
 ghost use Rattle.agglo_model.specs.Basins.{AreBasins};
 ghost use Rattle.agglo_model.specs.Cutting.{cells_at};
 ghost use Rattle.face_pointers.specs.Pieces.{AreClimbs, IsLeafClimb};
@@ -8,6 +9,7 @@ use agglo_model::Memory;
 use chunk_tree::Cutting;
 use seg_base::Labels;
 use std::alloc::Global;
+use std::thread::Threads;
 use steepest_ascent::{Ends, climb};
 use volume_file::Volume;
 
@@ -26,8 +28,10 @@ pub fn climb_leaf(
     climb(alloc, vol, low, &cutting.cell(leaf))
 }
 
-/// The basin labels of a volume, from the ends of the ascents within the leaves of a cutting.
-pub fn resolve(
+/// The basin labels of a volume, from the ends of the ascents within the leaves of a cutting, in several
+/// threads.
+pub fn resolve<R: Threads + Sync>(
+    rt: &R,
     alloc: Global,
     vol: &Volume,
     low: u8,
@@ -39,8 +43,29 @@ pub fn resolve(
     ensures axes { IfOk result (λ labels. labels.axes ≡ vol.now.axes) }
     ensures basins { IfOk result (λ labels. AreBasins vol.now low labels.labels) }
 {
-    let mut labels = Vec::from_elem(alloc, 0, vol.dims().voxels() as usize)?;
-    let exits = Exits::of(vol, low, cutting, pieces);
-    exits.settle_all(&mut labels);
+    let room = Vec::from_elem(alloc, 0, vol.dims().voxels() as usize)?;
+    resolve_into(rt, alloc, vol, low, cutting, pieces, room)
+}
+
+/// The same, in a list with room for a label of each voxel.
+pub fn resolve_into<R: Threads + Sync>(
+    rt: &R,
+    alloc: Global,
+    vol: &Volume,
+    low: u8,
+    cutting: &Cutting,
+    pieces: Vec<Ends>,
+    room: Vec<u32>,
+) -> Result<Labels, Memory>
+    requires axes { cutting.now.axes ≡ vol.now.axes }
+    requires climbs { AreClimbs vol.now low cutting.now pieces.items }
+    requires room { length room.items ≡ voxel_count vol.now.axes }
+    ensures axes { IfOk result (λ labels. labels.axes ≡ vol.now.axes) }
+    ensures basins { IfOk result (λ labels. AreBasins vol.now low labels.labels) }
+{
+    let mut exits = Exits::of(vol, low, cutting, pieces);
+    exits.follow_all(rt, alloc)?;
+    let mut labels = room;
+    exits.fill_all(rt, &mut labels);
     Ok(Labels::of(vol.dims(), labels))
 }

@@ -6,6 +6,7 @@ use agglo_model::Memory;
 use chunk_tree::Cutting;
 use seg_base::{DimFault, Dims};
 use std::alloc::{AllocError, Global};
+use std::thread::Threads;
 use steepest_ascent::Ends;
 use volume_file::{Head, Volume};
 
@@ -46,23 +47,29 @@ fn climbs(alloc: Global, vol: &Volume, low: u8, cutting: &Cutting) -> Result<Vec
 }
 
 /// The labels of a volume by leaves of this length on the x axis.
-fn labels(alloc: Global, vol: &Volume, low: u8, length: u32) -> Result<Vec<u32>, Trouble> {
+fn labels<R: Threads + Sync>(
+    rt: &R,
+    alloc: Global,
+    vol: &Volume,
+    low: u8,
+    length: u32,
+) -> Result<Vec<u32>, Trouble> {
     let Ok(cutting) = Cutting::new(vol.dims(), [length, 1, 1]) else {
         return Err(Trouble::Cut);
     };
     let pieces = climbs(alloc, vol, low, &cutting).map_err(Trouble::Memory)?;
-    let labels = resolve(alloc, vol, low, &cutting, pieces).map_err(Trouble::Memory)?;
+    let labels = resolve(rt, alloc, vol, low, &cutting, pieces).map_err(Trouble::Memory)?;
     labels.list().to_vec(alloc).map_err(Trouble::Alloc)
 }
 
 #[test]
 fn an_ascent_is_followed_through_faces(rt: HostRuntime) -> Result<(), Trouble> {
     let vol = row(rt.alloc(), &[0, 100, 100, 100], 4)?;
-    let two = labels(rt.alloc(), &vol, 1, 2)?;
+    let two = labels(&rt, rt.alloc(), &vol, 1, 2)?;
     assert_eq!(rt; two.as_slice(), [1, 1, 1, 1].as_slice());
-    let one = labels(rt.alloc(), &vol, 1, 1)?;
+    let one = labels(&rt, rt.alloc(), &vol, 1, 1)?;
     assert_eq!(rt; one.as_slice(), [1, 1, 1, 1].as_slice());
-    let none = labels(rt.alloc(), &vol, 101, 2)?;
+    let none = labels(&rt, rt.alloc(), &vol, 101, 2)?;
     assert_eq!(rt; none.as_slice(), [0, 0, 0, 0].as_slice());
     Ok(())
 }
@@ -71,7 +78,7 @@ fn an_ascent_is_followed_through_faces(rt: HostRuntime) -> Result<(), Trouble> {
 fn a_basin_on_both_sides_of_a_face(rt: HostRuntime) -> Result<(), Trouble> {
     let vol = row(rt.alloc(), &[0, 200, 100, 200, 90, 200, 100, 200], 8)?;
     for length in [1, 3, 6, 8] {
-        let found = labels(rt.alloc(), &vol, 1, length)?;
+        let found = labels(&rt, rt.alloc(), &vol, 1, length)?;
         assert_eq!(rt; found.as_slice(), [1, 1, 3, 3, 5, 5, 7, 7].as_slice());
     }
     Ok(())

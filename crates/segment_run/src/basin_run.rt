@@ -1,19 +1,19 @@
-ghost use Rattle.std.specs.Prelude.{◌≡◌, ◌<◌, IfOk};
+ghost use Rattle.std.specs.Prelude.{◌≡◌, ◌<◌, IfOk, length};
 ghost use Rattle.agglo_model.specs.Basins.{AreBasins};
 ghost use Rattle.agglo_model.specs.Cutting.{cells_at};
 ghost use Rattle.face_pointers.specs.Pieces.{AreClimbs, IsLeafClimb};
 
 use agglo_model::Memory;
 use chunk_tree::Cutting;
-use face_pointers::{climb_leaf, resolve};
+use face_pointers::{climb_leaf, resolve_into};
 use rayon::prelude::*;
 use seg_base::Labels;
-use std::alloc::Global;
-use std::thread::Threads;
+use std::alloc::{AllocError, Global};
+use std::thread::{Threads, join};
 use steepest_ascent::{Ends, whole_basins};
 use volume_file::Volume;
 
-/// The basin labels of a volume, worked out leaf by leaf of a cutting, the leaves in several threads.
+/// The basin labels of a volume, worked out leaf by leaf of a cutting, in several threads.
 pub fn basins<R: Threads + Sync>(
     rt: &R,
     alloc: Global,
@@ -28,8 +28,18 @@ pub fn basins<R: Threads + Sync>(
     if cutting.leaves() == 1 {
         return whole_basins(alloc, vol, low);
     }
-    let pieces = climb_all(rt, alloc, vol, low, cutting)?;
-    resolve(alloc, vol, low, cutting, pieces)
+    let voxels = vol.dims().voxels() as usize;
+    let (room, pieces) = join(
+        rt,
+        || -> Result<Vec<u32>, AllocError>
+            ensures { IfOk result (λ room. length room.items ≡ voxels) }
+        { Vec::from_elem(alloc, 0, voxels) },
+        || -> Result<Vec<Ends>, Memory>
+            requires { cutting.now.axes ≡ vol.now.axes }
+            ensures { IfOk result (λ pieces. AreClimbs vol.entry.now low cutting.entry.now pieces.items) }
+        { climb_all(rt, alloc, vol, low, cutting) },
+    );
+    resolve_into(rt, alloc, vol, low, cutting, pieces?, room?)
 }
 
 /// The ends of the ascents within each leaf, in order of number.

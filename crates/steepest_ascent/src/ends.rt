@@ -1,4 +1,4 @@
-ghost use Rattle.std.specs.Prelude.{◌≡◌, ◌<◌, ◌↔◌, IsTrue, length};
+ghost use Rattle.std.specs.Prelude.{◌≡◌, ◌<◌, ◌↔◌, IsTrue, length, slice_set};
 ghost use Rattle.agglo_model.specs.Axes.{voxel_count};
 ghost use Rattle.agglo_model.specs.Boxes.{box_grid};
 ghost use Rattle.steepest_ascent.specs.CellEnds.{IsInCell, end_at, end_of};
@@ -85,6 +85,14 @@ impl Ends {
         ensures { result ≡ end_at self.now.ends i }
     {
         self.list[i as usize]
+    }
+
+    /// Gives a voxel of the cell, by its number there, this end.
+    pub fn put(&mut self, voxel: u32, end: End)
+        requires { voxel < voxel_count (box_grid self.old.cell.lo self.old.cell.hi) }
+        ensures { self.new ≡ record { cell = self.old.cell; ends = slice_set self.old.ends voxel end } }
+    {
+        self.list[voxel as usize] = end;
     }
 
     /// The end of voxel `v` of the volume, which lies in the cell.
