@@ -10,28 +10,36 @@ use std::sync::atomic::{AtomicU32, Ordering};
 use std::test::Fail;
 use std::thread::Threads;
 
-/// How a desk fails: how many bytes have room on a port, how many a call takes or gives at most, and which call
-/// fails.
+/// How a desk fails: how many bytes have room on a port, and which call fails.
 #[derive(Clone, Copy)]
 struct Failing {
     room: usize,
-    at_most: usize,
     call: (CallKind, u64),
 }
 
 /// Room for all, and a call that never comes.
 const NOTHING: Failing = Failing {
-    room: 4096,
-    at_most: 16,
+    room: 65_536,
     call: (CallKind::OpenIn, 0),
 };
 
-/// Room for the files of a larger volume.
-const LARGE: Failing = Failing {
-    room: 65_536,
-    at_most: 65_536,
-    call: (CallKind::OpenIn, 0),
-};
+fn read_failing(text: &str) -> Result<Failing, Fail> {
+    let (room, call) = text.split_once(' ').ok_or("no call")?;
+    let (kind, nth) = call.split_once(' ').ok_or("no number")?;
+    let kind = match kind {
+        "open-in" => CallKind::OpenIn,
+        "read" => CallKind::Read,
+        "open-out" => CallKind::OpenOut,
+        "labels" => CallKind::Write(Port::Labels),
+        "tree" => CallKind::Write(Port::Tree),
+        "volume" => CallKind::Write(Port::Volume),
+        _ => CallKind::Write(Port::Note),
+    };
+    Ok(Failing {
+        room: room.parse()?,
+        call: (kind, nth.parse()?),
+    })
+}
 
 fn words(alloc: Global, text: &str) -> Result<Vec<String>, AllocError> {
     let mut words = Vec::new(alloc);
@@ -44,57 +52,62 @@ fn words(alloc: Global, text: &str) -> Result<Vec<String>, AllocError> {
     Ok(words)
 }
 
-/// A header: a text, and six numbers of four bytes.
-fn header(alloc: Global, text: &[u8], numbers: [u32; 6]) -> Result<Vec<u8>, AllocError> {
-    let mut bytes = text.to_vec(alloc)?;
-    for number in numbers {
-        bytes.extend_from_slice(&number.to_le_bytes())?;
-    }
-    Ok(bytes)
-}
-
-/// A volume file of these axes and this number of channels, with this body.
-fn volume(
-    alloc: Global,
-    axes: [u32; 3],
-    channels: u32,
-    body: &[u8],
-) -> Result<Vec<u8>, AllocError> {
-    let [nx, ny, nz] = axes;
-    let mut bytes = header(alloc, b"AFFVOL01", [nx, ny, nz, channels, 0, 0])?;
-    bytes.extend_from_slice(body)?;
-    Ok(bytes)
-}
-
-/// A volume file of voxels in a row, from the bytes of the edges between them. All others are `other`.
-fn row(alloc: Global, edges: &[u8], other: u8) -> Result<Vec<u8>, Fail> {
-    let voxels = u32::try_from(edges.len() + 1)?;
-    let mut bytes = volume(alloc, [voxels, 1, 1], 3, &[other, other, other])?;
-    for edge in edges {
-        bytes.extend_from_slice(&[*edge, other, other])?;
-    }
-    Ok(bytes)
-}
-
-/// A volume file of a layer three voxels high, in which some edges have these bytes. All others are 0.
-fn layer(alloc: Global, width: u32, edges: &[(&[usize], u8)]) -> Result<Vec<u8>, AllocError> {
-    let mut body = Vec::from_elem(alloc, 0, 9 * width as usize)?;
-    for (numbers, byte) in edges {
-        set(&mut body, numbers, *byte);
-    }
-    volume(alloc, [width, 3, 1], 3, &body)
-}
-
-/// Gives these edges this byte.
-fn set(body: &mut [u8], edges: &[usize], byte: u8) {
-    for edge in edges {
-        if let Some(place) = body.get_mut(*edge) {
-            *place = byte;
+/// The bytes of a file from its text, whose parts stand between strokes: the text and the numbers of four bytes that
+/// it begins with; how many bytes follow, and which; and others of these by their places.
+fn file(alloc: Global, text: &str) -> Result<Vec<u8>, Fail> {
+    let mut bytes = Vec::new(alloc);
+    for (i, part) in text.split(" / ").enumerate() {
+        match i {
+            0 => add_numbers(&mut bytes, part)?,
+            1 => add_bytes(&mut bytes, part)?,
+            _ => set_bytes(&mut bytes, part)?,
         }
     }
+    Ok(bytes)
 }
 
-/// Runs the program on these words over a desk in memory, which has a file `in` of these bytes.
+fn add_numbers(bytes: &mut Vec<u8>, text: &str) -> Result<(), Fail> {
+    for (i, word) in text.split(' ').enumerate() {
+        if i == 0 {
+            bytes.extend_from_slice(word.as_bytes())?;
+        } else {
+            bytes.extend_from_slice(&word.parse::<u32>()?.to_le_bytes())?;
+        }
+    }
+    Ok(())
+}
+
+fn add_bytes(bytes: &mut Vec<u8>, text: &str) -> Result<(), Fail> {
+    let (count, value) = text.split_once(' ').ok_or("no byte")?;
+    let value = value.parse()?;
+    for _ in 0..count.parse::<u32>()? {
+        bytes.push(value)?;
+    }
+    Ok(())
+}
+
+/// A byte, and then the places after a header that have it.
+fn set_bytes(bytes: &mut [u8], text: &str) -> Result<(), Fail> {
+    let (value, places) = text.split_once(' ').ok_or("no place")?;
+    let value = value.parse()?;
+    for place in places.split(' ') {
+        if let Some(byte) = bytes.get_mut(32 + usize::from(place.parse::<u16>()?)) {
+            *byte = value;
+        }
+    }
+    Ok(())
+}
+
+/// What a run of the program left on its desk: two files, and all as text.
+#[derive(Drop)]
+struct Outcome {
+    tree: Vec<u8>,
+    volume: Vec<u8>,
+    told: String,
+}
+
+/// Runs the program on these words over a desk in memory, which has a file `in` of these bytes and takes or gives
+/// 16 bytes at most a call.
 fn run<R: Threads + Sync, G: Gate>(
     rt: &R,
     alloc: Global,
@@ -107,32 +120,26 @@ fn run<R: Threads + Sync, G: Gate>(
     let mut desk = MemoryDesk::new(alloc, failing.room)?;
     desk.add_file("in", bytes)?;
     desk.fail_call(failing.call.0, failing.call.1)?;
-    desk.at_most(failing.at_most);
+    desk.at_most(16);
     let status = agglo(rt, alloc, &words, &mut desk, gate);
     left_on(alloc, status, &desk)
 }
 
-/// What a run of the program left on its desk: the files on the ports Labels, Tree and Volume, and all as text.
-#[derive(Drop)]
-struct Outcome {
-    tree: Vec<u8>,
-    volume: Vec<u8>,
-    told: String,
-}
-
+/// The status, each file that was opened, the note, the line of a refusal, and how much of the input is left, with
+/// strokes between them.
 fn left_on(alloc: Global, status: u8, desk: &MemoryDesk) -> Result<Outcome, Fail> {
-    let mut told = format!(in alloc; "{status}\n")?;
+    let mut told = format!(in alloc; "{status}")?;
     for port in [Port::Labels, Port::Tree, Port::Volume] {
         if let Some(name) = desk.opened_name(port) {
             let file = numbers(alloc, desk.written(port))?;
-            write!(told, "{name} {file}\n")?;
+            write!(told, " | {name} {file}")?;
         }
     }
     add_text(&mut told, desk.written(Port::Note))?;
     add_text(&mut told, desk.written(Port::Trouble))?;
     let left = desk.left();
     if left > 0 {
-        write!(told, "{left} bytes left\n")?;
+        write!(told, " | {left} bytes left")?;
     }
     Ok(Outcome {
         tree: desk.written(Port::Tree).to_vec(alloc)?,
@@ -141,9 +148,17 @@ fn left_on(alloc: Global, status: u8, desk: &MemoryDesk) -> Result<Outcome, Fail
     })
 }
 
+/// A text, with `;` for its line feeds.
 fn add_text(told: &mut String, bytes: &[u8]) -> Result<(), AllocError> {
+    if !bytes.is_empty() {
+        told.push_str(" | ")?;
+    }
     for byte in bytes {
-        told.push(char::from(*byte))?;
+        told.push(if *byte == b'\n' {
+            ';'
+        } else {
+            char::from(*byte)
+        })?;
     }
     Ok(())
 }
@@ -168,493 +183,316 @@ fn numbers(alloc: Global, bytes: &[u8]) -> Result<String, Fail> {
     Ok(told)
 }
 
-/// Runs the program, and compares all that it left on its desk with this.
-fn check<R: Threads + Sync + Abort>(
-    rt: &R,
-    alloc: Global,
-    text: &str,
-    bytes: &[u8],
-    wanted: &str,
-) -> Result<(), Fail> {
-    let ran = run(rt, alloc, text, bytes, NOTHING, &Open)?;
+/// Runs the program as a case says, and compares all that it left on its desk. The lines of a case are the words, the
+/// file `in`, what is left, and how the desk fails, if it does.
+fn check<R: Threads + Sync + Abort>(rt: &R, alloc: Global, case: &str) -> Result<(), Fail> {
+    let mut lines = case.lines();
+    let text = lines.next().ok_or("no words")?;
+    let bytes = file(alloc, lines.next().ok_or("no file")?)?;
+    let wanted = lines.next().ok_or("no outcome")?;
+    let failing = match lines.next() {
+        Some(line) => read_failing(line)?,
+        None => NOTHING,
+    };
+    let ran = run(rt, alloc, text, &bytes, failing, &Open)?;
     assert_eq!(rt; ran.told.as_str(), wanted, "of {text}");
     Ok(())
 }
 
-/// The same for a segmentation at these options.
-fn check_segment<R: Threads + Sync + Abort>(
-    rt: &R,
-    alloc: Global,
-    options: &str,
-    bytes: &[u8],
-    wanted: &str,
-) -> Result<(), Fail> {
-    let text = format!(in alloc; "segment --volume in --labels l --tree t {options}")?;
-    check(rt, alloc, text.as_str(), bytes, wanted)
+fn check_all<R: Threads + Sync + Abort>(rt: &R, alloc: Global, cases: &str) -> Result<(), Fail> {
+    for case in cases.split("\n\n") {
+        check(rt, alloc, case)?;
+    }
+    Ok(())
 }
 
-const BASINS: &str = "basins --volume in --labels l --low 1";
+/// Four voxels in a row, and one.
+const SHORT_ROWS: &str = "\
+basins --volume in --labels l --low 1
+AFFVOL01 4 1 1 3 0 0 / 12 0 / 200 3 / 50 6 / 180 9
+0 | l AFFLAB01 4 1 1 4 0 0 1 1 3 3 | voxels 4;foreground 4;basins 2;
 
-const SEGMENT: &str =
-    "segment --volume in --labels l --tree t --low 1 --merge 50/1 --chunk 4,1,1 --workers 1";
+segment --volume in --labels l --tree t --low 1 --merge 50/1 --chunk 4,1,1 --workers 1
+AFFVOL01 4 1 1 3 0 0 / 12 0 / 200 3 / 50 6 / 180 9
+0 | l AFFLAB01 4 1 1 4 0 0 1 1 1 1 | t AFFTRE01 4 1 1 50 1 1 1 3 50 0 1 0 6 0 | voxels 4;basins 2;merges 1;regions 1;level 0 nodes 1 merges 1 passed 0;
 
-/// Four voxels in a row, whose edges have the affinities 200, 50 and 180.
-fn four(alloc: Global) -> Result<Vec<u8>, Fail> {
-    row(alloc, &[200, 50, 180], 0)
-}
+segment --workers 1 --low=1 --tree t --chunk=4,1,1 --labels=l --merge 50/1 --volume in
+AFFVOL01 4 1 1 3 0 0 / 12 255 / 200 3 / 50 6 / 180 9
+0 | l AFFLAB01 4 1 1 4 0 0 1 1 1 1 | t AFFTRE01 4 1 1 50 1 1 1 3 50 0 1 0 6 0 | voxels 4;basins 2;merges 1;regions 1;level 0 nodes 1 merges 1 passed 0;
 
-const FOUR_BASINS: &str = "0\nl AFFLAB01 4 1 1 4 0 0 1 1 3 3\nvoxels 4\nforeground 4\nbasins 2\n";
+segment --volume in --labels l --tree t --low 1 --merge 51/1 --chunk 4,1,1 --workers 1
+AFFVOL01 4 1 1 3 0 0 / 12 0 / 200 3 / 50 6 / 180 9
+0 | l AFFLAB01 4 1 1 4 0 0 1 1 3 3 | t AFFTRE01 4 1 1 51 1 0 | voxels 4;basins 2;merges 0;regions 2;level 0 nodes 1 merges 0 passed 0;
 
-const FOUR_SEGMENTED: &str =
-    "0\nl AFFLAB01 4 1 1 4 0 0 1 1 1 1\nt AFFTRE01 4 1 1 50 1 1 1 3 50 0 1 0 6 0\n\
-     voxels 4\nbasins 2\nmerges 1\nregions 1\nlevel 0 nodes 1 merges 1 passed 0\n";
+segment --volume in --labels l --tree t --low 1 --merge 50/1 --chunk 1,1,1 --workers 1
+AFFVOL01 4 1 1 3 0 0 / 12 0 / 200 3 / 50 6 / 180 9
+0 | l AFFLAB01 4 1 1 4 0 0 1 1 1 1 | t AFFTRE01 4 1 1 50 1 1 1 3 50 0 1 0 6 0 | voxels 4;basins 2;merges 1;regions 1;level 0 nodes 4 merges 0 passed 4;level 1 nodes 2 merges 0 passed 2;level 2 nodes 1 merges 1 passed 0;
 
-#[test]
-fn words_in_any_order_are_one_run(rt: HostRuntime) -> Result<(), Fail> {
-    let four = four(rt.alloc())?;
-    let other_order =
-        "segment --workers 1 --low=1 --tree t --chunk=4,1,1 --labels=l --merge 50/1 --volume in";
-    check(&rt, rt.alloc(), BASINS, &four, FOUR_BASINS)?;
-    check(&rt, rt.alloc(), SEGMENT, &four, FOUR_SEGMENTED)?;
-    check(&rt, rt.alloc(), other_order, &four, FOUR_SEGMENTED)
-}
+segment --volume in --labels l --tree t --low 255 --merge 50/1 --chunk 4,1,1 --workers 1
+AFFVOL01 4 1 1 3 0 0 / 12 0 / 200 3 / 50 6 / 180 9
+0 | l AFFLAB01 4 1 1 4 0 0 0 0 0 0 | t AFFTRE01 4 1 1 50 1 0 | voxels 4;basins 0;merges 0;regions 0;level 0 nodes 1 merges 0 passed 0;
+
+segment --volume in --labels l --tree t --low 190 --merge 50/1 --chunk 4,1,1 --workers 1
+AFFVOL01 4 1 1 3 0 0 / 12 0 / 200 3 / 50 6 / 180 9
+0 | l AFFLAB01 4 1 1 4 0 0 1 1 0 0 | t AFFTRE01 4 1 1 50 1 0 | voxels 4;basins 1;merges 0;regions 1;level 0 nodes 1 merges 0 passed 0;
+
+segment --volume in --labels l --tree t --low 1 --merge 0/1 --chunk 4,1,1 --workers 1
+AFFVOL01 4 1 1 3 0 0 / 12 0 / 200 3 9
+0 | l AFFLAB01 4 1 1 4 0 0 1 1 1 1 | t AFFTRE01 4 1 1 0 1 1 1 3 0 0 1 0 6 0 | voxels 4;basins 2;merges 1;regions 1;level 0 nodes 1 merges 1 passed 0;
+
+segment --volume in --labels l --tree t --low 1 --merge 1/1 --chunk 2,1,1 --workers 1
+AFFVOL01 4 1 1 3 0 0 / 12 0 / 100 3 6 9
+0 | l AFFLAB01 4 1 1 4 0 0 1 1 1 1 | t AFFTRE01 4 1 1 1 1 0 | voxels 4;basins 1;merges 0;regions 1;level 0 nodes 2 merges 0 passed 2;level 1 nodes 1 merges 0 passed 0;
+
+segment --volume in --labels l --tree t --low 1 --merge 1/1 --chunk 1,1,1 --workers 1
+AFFVOL01 1 1 1 3 0 0 / 3 255
+0 | l AFFLAB01 1 1 1 4 0 0 0 | t AFFTRE01 1 1 1 1 1 0 | voxels 1;basins 0;merges 0;regions 0;level 0 nodes 1 merges 0 passed 0;";
 
 #[test]
 fn short_rows_are_segmented(rt: HostRuntime) -> Result<(), Fail> {
-    let alloc = rt.alloc();
-    let plain = four(alloc)?;
-    let table = [
-        (
-            "--low 1 --merge 51/1 --chunk 4,1,1 --workers 1",
-            &plain,
-            "0\nl AFFLAB01 4 1 1 4 0 0 1 1 3 3\nt AFFTRE01 4 1 1 51 1 0\n\
-             voxels 4\nbasins 2\nmerges 0\nregions 2\nlevel 0 nodes 1 merges 0 passed 0\n",
-        ),
-        (
-            "--low 1 --merge 50/1 --chunk 1,1,1 --workers 1",
-            &plain,
-            "0\nl AFFLAB01 4 1 1 4 0 0 1 1 1 1\nt AFFTRE01 4 1 1 50 1 1 1 3 50 0 1 0 6 0\n\
-             voxels 4\nbasins 2\nmerges 1\nregions 1\nlevel 0 nodes 4 merges 0 passed 4\n\
-             level 1 nodes 2 merges 0 passed 2\nlevel 2 nodes 1 merges 1 passed 0\n",
-        ),
-        (
-            "--low 255 --merge 50/1 --chunk 4,1,1 --workers 1",
-            &plain,
-            "0\nl AFFLAB01 4 1 1 4 0 0 0 0 0 0\nt AFFTRE01 4 1 1 50 1 0\n\
-             voxels 4\nbasins 0\nmerges 0\nregions 0\nlevel 0 nodes 1 merges 0 passed 0\n",
-        ),
-        (
-            "--low 190 --merge 50/1 --chunk 4,1,1 --workers 1",
-            &plain,
-            "0\nl AFFLAB01 4 1 1 4 0 0 1 1 0 0\nt AFFTRE01 4 1 1 50 1 0\n\
-             voxels 4\nbasins 1\nmerges 0\nregions 1\nlevel 0 nodes 1 merges 0 passed 0\n",
-        ),
-        (
-            "--low 1 --merge 50/1 --chunk 4,1,1 --workers 1",
-            &row(alloc, &[200, 50, 180], 255)?,
-            FOUR_SEGMENTED,
-        ),
-        (
-            "--low 1 --merge 0/1 --chunk 4,1,1 --workers 1",
-            &row(alloc, &[200, 0, 200], 0)?,
-            "0\nl AFFLAB01 4 1 1 4 0 0 1 1 1 1\nt AFFTRE01 4 1 1 0 1 1 1 3 0 0 1 0 6 0\n\
-             voxels 4\nbasins 2\nmerges 1\nregions 1\nlevel 0 nodes 1 merges 1 passed 0\n",
-        ),
-        (
-            "--low 1 --merge 1/1 --chunk 2,1,1 --workers 1",
-            &row(alloc, &[100, 100, 100], 0)?,
-            "0\nl AFFLAB01 4 1 1 4 0 0 1 1 1 1\nt AFFTRE01 4 1 1 1 1 0\n\
-             voxels 4\nbasins 1\nmerges 0\nregions 1\nlevel 0 nodes 2 merges 0 passed 2\n\
-             level 1 nodes 1 merges 0 passed 0\n",
-        ),
-        (
-            "--low 1 --merge 1/1 --chunk 1,1,1 --workers 1",
-            &row(alloc, &[], 255)?,
-            "0\nl AFFLAB01 1 1 1 4 0 0 0\nt AFFTRE01 1 1 1 1 1 0\n\
-             voxels 1\nbasins 0\nmerges 0\nregions 0\nlevel 0 nodes 1 merges 0 passed 0\n",
-        ),
-    ];
-    for (options, bytes, wanted) in table {
-        check_segment(&rt, alloc, options, bytes, wanted)?;
-    }
-    Ok(())
+    check_all(&rt, rt.alloc(), SHORT_ROWS)
 }
 
-/// Eight voxels in a row at 90/1, whose basins are pairs.
-const EIGHT: [u8; 7] = [200, 100, 200, 90, 200, 100, 200];
+/// Eight voxels in a row, whose basins are pairs.
+const ROWS_OF_EIGHT: &str = "\
+segment --volume in --labels l --tree t --low 1 --merge 90/1 --chunk 6,1,1 --workers 1
+AFFVOL01 8 1 1 3 0 0 / 24 0 / 200 3 9 15 21 / 100 6 18 / 90 12
+0 | l AFFLAB01 8 1 1 4 0 0 1 1 1 1 1 1 1 1 | t AFFTRE01 8 1 1 90 1 3 1 3 100 0 1 0 6 0 5 7 100 0 1 0 18 0 1 5 90 0 1 0 12 0 | voxels 8;basins 4;merges 3;regions 1;level 0 nodes 2 merges 1 passed 3;level 1 nodes 1 merges 2 passed 0;
 
-const EIGHT_FILES: &str = "0\nl AFFLAB01 8 1 1 4 0 0 1 1 1 1 1 1 1 1\n\
-     t AFFTRE01 8 1 1 90 1 3 1 3 100 0 1 0 6 0 5 7 100 0 1 0 18 0 1 5 90 0 1 0 12 0\n";
+segment --volume in --labels l --tree t --low 1 --merge 50/1 --chunk 6,1,1 --workers 1
+AFFVOL01 8 1 1 3 0 0 / 24 0 / 200 3 9 15 21 / 60 6 / 50 12 / 100 18
+0 | l AFFLAB01 8 1 1 4 0 0 1 1 1 1 1 1 1 1 | t AFFTRE01 8 1 1 50 1 3 5 7 100 0 1 0 18 0 1 3 60 0 1 0 6 0 1 5 50 0 1 0 12 0 | voxels 8;basins 4;merges 3;regions 1;level 0 nodes 2 merges 1 passed 3;level 1 nodes 1 merges 2 passed 0;
+
+segment --volume in --labels l --tree t --low 1 --merge 50/1 --chunk 6,1,1 --workers 1
+AFFVOL01 8 1 1 3 0 0 / 24 0 / 200 3 9 15 21 / 60 6 / 40 12 / 100 18
+0 | l AFFLAB01 8 1 1 4 0 0 1 1 1 1 5 5 5 5 | t AFFTRE01 8 1 1 50 1 2 5 7 100 0 1 0 18 0 1 3 60 0 1 0 6 0 | voxels 8;basins 4;merges 2;regions 2;level 0 nodes 2 merges 1 passed 2;level 1 nodes 1 merges 1 passed 0;
+
+segment --volume in --labels l --tree t --low 1 --merge 100/1 --chunk 4,1,1 --workers 1
+AFFVOL01 8 1 1 3 0 0 / 24 0 / 200 3 9 15 21 / 100 6 12 18
+0 | l AFFLAB01 8 1 1 4 0 0 1 1 1 1 1 1 1 1 | t AFFTRE01 8 1 1 100 1 3 1 3 100 0 1 0 6 0 1 5 100 0 1 0 12 0 1 7 100 0 1 0 18 0 | voxels 8;basins 4;merges 3;regions 1;level 0 nodes 2 merges 0 passed 4;level 1 nodes 1 merges 3 passed 0;";
 
 #[test]
 fn rows_of_eight_are_segmented(rt: HostRuntime) -> Result<(), Fail> {
-    let alloc = rt.alloc();
-    let table = [
-        (
-            "--low 1 --merge 90/1 --chunk 6,1,1 --workers 1",
-            EIGHT,
-            "0\nl AFFLAB01 8 1 1 4 0 0 1 1 1 1 1 1 1 1\n\
-             t AFFTRE01 8 1 1 90 1 3 1 3 100 0 1 0 6 0 5 7 100 0 1 0 18 0 1 5 90 0 1 0 12 0\n\
-             voxels 8\nbasins 4\nmerges 3\nregions 1\n\
-             level 0 nodes 2 merges 1 passed 3\nlevel 1 nodes 1 merges 2 passed 0\n",
-        ),
-        (
-            "--low 1 --merge 50/1 --chunk 6,1,1 --workers 1",
-            [200, 60, 200, 50, 200, 100, 200],
-            "0\nl AFFLAB01 8 1 1 4 0 0 1 1 1 1 1 1 1 1\n\
-             t AFFTRE01 8 1 1 50 1 3 5 7 100 0 1 0 18 0 1 3 60 0 1 0 6 0 1 5 50 0 1 0 12 0\n\
-             voxels 8\nbasins 4\nmerges 3\nregions 1\n\
-             level 0 nodes 2 merges 1 passed 3\nlevel 1 nodes 1 merges 2 passed 0\n",
-        ),
-        (
-            "--low 1 --merge 50/1 --chunk 6,1,1 --workers 1",
-            [200, 60, 200, 40, 200, 100, 200],
-            "0\nl AFFLAB01 8 1 1 4 0 0 1 1 1 1 5 5 5 5\n\
-             t AFFTRE01 8 1 1 50 1 2 5 7 100 0 1 0 18 0 1 3 60 0 1 0 6 0\n\
-             voxels 8\nbasins 4\nmerges 2\nregions 2\n\
-             level 0 nodes 2 merges 1 passed 2\nlevel 1 nodes 1 merges 1 passed 0\n",
-        ),
-        (
-            "--low 1 --merge 100/1 --chunk 4,1,1 --workers 1",
-            [200, 100, 200, 100, 200, 100, 200],
-            "0\nl AFFLAB01 8 1 1 4 0 0 1 1 1 1 1 1 1 1\n\
-             t AFFTRE01 8 1 1 100 1 3 1 3 100 0 1 0 6 0 1 5 100 0 1 0 12 0 1 7 100 0 1 0 18 0\n\
-             voxels 8\nbasins 4\nmerges 3\nregions 1\n\
-             level 0 nodes 2 merges 0 passed 4\nlevel 1 nodes 1 merges 3 passed 0\n",
-        ),
-    ];
-    for (options, edges, wanted) in table {
-        check_segment(&rt, alloc, options, &row(alloc, &edges, 0)?, wanted)?;
-    }
-    Ok(())
+    check_all(&rt, rt.alloc(), ROWS_OF_EIGHT)
 }
 
 /// A layer of three basins, 1, 3 and 5, where 5 has contacts with both others: with 3 by edge 12, and with 1 by the
-/// edges 30 and 48, which have these bytes.
-fn three_basins(alloc: Global, first: u8, second: u8) -> Result<Vec<u8>, AllocError> {
-    let inside = [
-        3, 9, 15, 19, 21, 22, 24, 27, 31, 33, 34, 37, 39, 40, 42, 43, 45, 46, 49, 51, 52,
-    ];
-    let edges = [
-        (&inside[..], 200),
-        (&[12], 100),
-        (&[30], first),
-        (&[48], second),
-        (&[6, 25, 28], 10),
-    ];
-    layer(alloc, 6, &edges)
-}
+/// edges 30 and 48.
+const THREE_BASINS: &str = "\
+segment --volume in --labels l --tree t --low 1 --merge 100/1 --chunk 6,3,1 --workers 1
+AFFVOL01 6 3 1 3 0 0 / 54 0 / 200 3 9 15 19 21 22 24 27 31 33 34 37 39 40 42 43 45 46 49 51 52 / 100 12 30 48 / 10 6 25 28
+0 | l AFFLAB01 6 3 1 4 0 0 1 1 3 3 3 3 1 1 1 1 3 3 1 1 1 1 3 3 | t AFFTRE01 6 3 1 100 1 1 3 5 100 0 1 0 12 0 | voxels 18;basins 3;merges 1;regions 2;level 0 nodes 1 merges 1 passed 0;
+
+segment --volume in --labels l --tree t --low 1 --merge 100/1 --chunk 6,3,1 --workers 1
+AFFVOL01 6 3 1 3 0 0 / 54 0 / 200 3 9 15 19 21 22 24 27 31 33 34 37 39 40 42 43 45 46 49 51 52 / 100 12 48 / 101 30 / 10 6 25 28
+0 | l AFFLAB01 6 3 1 4 0 0 1 1 3 3 1 1 1 1 1 1 1 1 1 1 1 1 1 1 | t AFFTRE01 6 3 1 100 1 1 1 5 201 0 2 0 30 0 | voxels 18;basins 3;merges 1;regions 2;level 0 nodes 1 merges 1 passed 0;
+
+segment --volume in --labels l --tree t --low 1 --merge 50/1 --chunk 6,3,1 --workers 1
+AFFVOL01 6 3 1 3 0 0 / 54 0 / 200 3 9 15 19 21 22 24 27 31 33 34 37 39 40 42 43 45 46 49 51 52 / 100 12 / 90 30 48 / 10 6 25 28
+0 | l AFFLAB01 6 3 1 4 0 0 1 1 3 3 3 3 1 1 1 1 3 3 1 1 1 1 3 3 | t AFFTRE01 6 3 1 50 1 1 3 5 100 0 1 0 12 0 | voxels 18;basins 3;merges 1;regions 2;level 0 nodes 1 merges 1 passed 0;";
 
 #[test]
 fn ties_and_sums_decide_which_basins_merge(rt: HostRuntime) -> Result<(), Fail> {
-    let table = [
-        (
-            "--low 1 --merge 100/1 --chunk 6,3,1 --workers 1",
-            100,
-            100,
-            "0\nl AFFLAB01 6 3 1 4 0 0 1 1 3 3 3 3 1 1 1 1 3 3 1 1 1 1 3 3\n\
-             t AFFTRE01 6 3 1 100 1 1 3 5 100 0 1 0 12 0\n\
-             voxels 18\nbasins 3\nmerges 1\nregions 2\nlevel 0 nodes 1 merges 1 passed 0\n",
-        ),
-        (
-            "--low 1 --merge 100/1 --chunk 6,3,1 --workers 1",
-            101,
-            100,
-            "0\nl AFFLAB01 6 3 1 4 0 0 1 1 3 3 1 1 1 1 1 1 1 1 1 1 1 1 1 1\n\
-             t AFFTRE01 6 3 1 100 1 1 1 5 201 0 2 0 30 0\n\
-             voxels 18\nbasins 3\nmerges 1\nregions 2\nlevel 0 nodes 1 merges 1 passed 0\n",
-        ),
-        (
-            "--low 1 --merge 50/1 --chunk 6,3,1 --workers 1",
-            90,
-            90,
-            "0\nl AFFLAB01 6 3 1 4 0 0 1 1 3 3 3 3 1 1 1 1 3 3 1 1 1 1 3 3\n\
-             t AFFTRE01 6 3 1 50 1 1 3 5 100 0 1 0 12 0\n\
-             voxels 18\nbasins 3\nmerges 1\nregions 2\nlevel 0 nodes 1 merges 1 passed 0\n",
-        ),
-    ];
-    for (options, first, second, wanted) in table {
-        let bytes = three_basins(rt.alloc(), first, second)?;
-        check_segment(&rt, rt.alloc(), options, &bytes, wanted)?;
-    }
-    Ok(())
+    check_all(&rt, rt.alloc(), THREE_BASINS)
 }
 
 #[test]
 fn a_cube_is_one_basin(rt: HostRuntime) -> Result<(), Fail> {
-    let alloc = rt.alloc();
-    let options = "--low 1 --merge 1/1 --chunk 3,3,3 --workers 1";
-    let bytes = volume(alloc, [8, 8, 8], 3, &Vec::from_elem(alloc, 77, 1536)?)?;
-    let mut wanted = String::from_str(alloc, "0\nl AFFLAB01 8 8 8 4 0 0")?;
-    for _ in 0..512 {
-        wanted.push_str(" 1")?;
-    }
-    wanted.push_str(
-        "\nt AFFTRE01 8 8 8 1 1 0\nvoxels 512\nbasins 1\nmerges 0\nregions 1\n\
-         level 0 nodes 27 merges 0 passed 27\nlevel 1 nodes 8 merges 0 passed 8\n\
-         level 2 nodes 1 merges 0 passed 0\n",
+    let mut case = String::from_str(
+        rt.alloc(),
+        "segment --volume in --labels l --tree t --low 1 --merge 1/1 --chunk 3,3,3 --workers 1\n\
+         AFFVOL01 8 8 8 3 0 0 / 1536 77\n\
+         0 | l AFFLAB01 8 8 8 4 0 0",
     )?;
-    check_segment(&rt, alloc, options, &bytes, wanted.as_str())
+    for _ in 0..512 {
+        case.push_str(" 1")?;
+    }
+    case.push_str(
+        " | t AFFTRE01 8 8 8 1 1 0 | voxels 512;basins 1;merges 0;regions 1;\
+         level 0 nodes 27 merges 0 passed 27;level 1 nodes 8 merges 0 passed 8;\
+         level 2 nodes 1 merges 0 passed 0;",
+    )?;
+    check(&rt, rt.alloc(), case.as_str())
 }
 
 #[test]
 fn workers_do_not_show(rt: HostRuntime) -> Result<(), Fail> {
-    let alloc = rt.alloc();
-    let edges: [(&[usize], u8); 2] = [
-        (&[3, 6, 9, 13, 18, 21, 25, 27, 30, 33], 200),
-        (&[15, 16, 19, 22, 28, 31, 34], 40),
-    ];
-    let bytes = layer(alloc, 4, &edges)?;
     for workers in [1, 2, 3, 32] {
-        let options = format!(in alloc; "--low 1 --merge 40/1 --chunk 2,3,1 --workers {workers}")?;
-        let wanted = "0\nl AFFLAB01 4 3 1 4 0 0 1 1 1 1 1 1 1 1 1 1 1 1\n\
-             t AFFTRE01 4 3 1 40 1 1 1 6 280 0 7 0 15 0\n\
-             voxels 12\nbasins 2\nmerges 1\nregions 1\n\
-             level 0 nodes 2 merges 0 passed 4\nlevel 1 nodes 1 merges 1 passed 0\n";
-        check_segment(&rt, alloc, options.as_str(), &bytes, wanted)?;
+        let case = format!(in rt.alloc();
+            "segment --volume in --labels l --tree t --low 1 --merge 40/1 --chunk 2,3,1 --workers {workers}\n\
+             AFFVOL01 4 3 1 3 0 0 / 36 0 / 200 3 6 9 13 18 21 25 27 30 33 / 40 15 16 19 22 28 31 34\n\
+             0 | l AFFLAB01 4 3 1 4 0 0 1 1 1 1 1 1 1 1 1 1 1 1 | t AFFTRE01 4 3 1 40 1 1 1 6 280 0 7 0 15 0 | \
+             voxels 12;basins 2;merges 1;regions 1;level 0 nodes 2 merges 0 passed 4;level 1 nodes 1 merges 1 passed 0;"
+        )?;
+        check(&rt, rt.alloc(), case.as_str())?;
     }
     Ok(())
 }
+
+const OTHER_WORDS: &str = "
+segment --volume in --labels l --low 1 --merge 50/1 --chunk 4,1,1 --workers 1
+basins --volume in --labels l --low 256
+segment --volume in --labels l --tree t --low 1 --merge 5/0 --chunk 4,1,1 --workers 1
+segment --volume in --labels l --tree t --low 1 --merge 5/1 --chunk 0,1,1 --workers 1
+segment --volume in --labels l --tree t --low 1 --merge 5/1 --chunk 4,1,1 --workers 33
+segment --volume in --labels l --tree l --low 1 --merge 5/1 --chunk 4,1,1 --workers 1
+basins --volume in --volume in --labels l --low 1
+basins --volume in --labels -l --low 1
+make --volume v --start 0 --dims 4,0,1";
 
 #[test]
 fn other_words_are_refused(rt: HostRuntime) -> Result<(), Fail> {
-    let table = [
-        "",
-        "segment --volume in --labels l --low 1 --merge 50/1 --chunk 4,1,1 --workers 1",
-        "basins --volume in --labels l --low 256",
-        "segment --volume in --labels l --tree t --low 1 --merge 5/0 --chunk 4,1,1 --workers 1",
-        "segment --volume in --labels l --tree t --low 1 --merge 5/1 --chunk 0,1,1 --workers 1",
-        "segment --volume in --labels l --tree t --low 1 --merge 5/1 --chunk 4,1,1 --workers 33",
-        "segment --volume in --labels l --tree l --low 1 --merge 5/1 --chunk 4,1,1 --workers 1",
-        "basins --volume in --volume in --labels l --low 1",
-        "basins --volume in --labels -l --low 1",
-    ];
-    for text in table {
-        check(
-            &rt,
-            rt.alloc(),
-            text,
-            b"",
-            "2\nagglo: words not understood\n",
-        )?;
+    for text in OTHER_WORDS.lines() {
+        let case = format!(in rt.alloc(); "{text}\nnone\n2 | agglo: words not understood;")?;
+        check(&rt, rt.alloc(), case.as_str())?;
     }
     Ok(())
 }
+
+const FLAWED_VOLUMES: &str = "\
+AFFVOL01 4 1 1 3 0 / 3 0
+3 | agglo: volume fault 1: header of 31 bytes;
+
+AFFVOL01 4 1 1 4 0 0 / 1 0
+3 | agglo: volume fault 3: 4 channels; | 1 bytes left
+
+AFFVOL01 4 0 1 3 0 0 / 1 0
+3 | agglo: volume fault 5: axis 1 is zero; | 1 bytes left
+
+AFFVOL01 65536 1 1 3 0 0 / 1 0
+3 | agglo: volume fault 6: axis 0 is above 65535; | 1 bytes left
+
+AFFVOL01 65535 4097 1 3 0 0 / 1 0
+3 | agglo: volume fault 7: too many voxels; | 1 bytes left
+
+AFFVOL01 4 1 1 3 0 0 / 11 0
+3 | agglo: volume fault 8: body of 11 bytes;
+
+AFFVOL01 4 1 1 3 0 0 / 13 0
+3 | agglo: volume fault 9: bytes after the body;";
 
 #[test]
 fn flawed_volumes_are_refused(rt: HostRuntime) -> Result<(), Fail> {
-    let alloc = rt.alloc();
-    let four = four(alloc)?;
-    let mut long = four.clone()?;
-    long.push(0)?;
-    let table = [
-        (
-            four.get(..31),
-            "3\nagglo: volume fault 1: header of 31 bytes\n",
-        ),
-        (
-            four.get(..43),
-            "3\nagglo: volume fault 8: body of 11 bytes\n",
-        ),
-        (
-            Some(long.as_slice()),
-            "3\nagglo: volume fault 9: bytes after the body\n",
-        ),
-    ];
-    for (bytes, wanted) in table {
-        let bytes = bytes.ok_or("the file is long enough")?;
-        check(&rt, alloc, BASINS, bytes, wanted)?;
-        check(&rt, alloc, SEGMENT, bytes, wanted)?;
+    for flawed in FLAWED_VOLUMES.split("\n\n") {
+        for text in [
+            "basins --volume in --labels l --low 1",
+            "segment --volume in --labels l --tree t --low 1 --merge 50/1 --chunk 4,1,1 --workers 1",
+        ] {
+            let case = format!(in rt.alloc(); "{text}\n{flawed}")?;
+            check(&rt, rt.alloc(), case.as_str())?;
+        }
     }
     Ok(())
 }
 
-#[test]
-fn a_flawed_header_ends_the_reading(rt: HostRuntime) -> Result<(), Fail> {
-    let table = [
-        (
-            [4, 1, 1],
-            4,
-            "3\nagglo: volume fault 3: 4 channels\n1 bytes left\n",
-        ),
-        (
-            [4, 0, 1],
-            3,
-            "3\nagglo: volume fault 5: axis 1 is zero\n1 bytes left\n",
-        ),
-        (
-            [65_536, 1, 1],
-            3,
-            "3\nagglo: volume fault 6: axis 0 is above 65535\n1 bytes left\n",
-        ),
-        (
-            [65_535, 4097, 1],
-            3,
-            "3\nagglo: volume fault 7: too many voxels\n1 bytes left\n",
-        ),
-    ];
-    for (axes, channels, wanted) in table {
-        let bytes = volume(rt.alloc(), axes, channels, &[0])?;
-        check(&rt, rt.alloc(), BASINS, &bytes, wanted)?;
-        check(&rt, rt.alloc(), SEGMENT, &bytes, wanted)?;
-    }
-    Ok(())
-}
+const OTHER_ENDS: &str = "\
+segment --volume in --labels l --tree t --low 1 --merge 5/1 --chunk 1,1,1 --workers 1
+AFFVOL01 64 64 65 3 0 0
+4 | agglo: 266240 leaves are too many;
+
+trial --start 0 --dims 64,64,65 --low 1 --merge 5/1 --chunk 1,1,1 --workers 1
+none
+4 | agglo: 266240 leaves are too many;
+
+show --tree in
+AFFTRE01 4 1 1 50 1 1 1 3 50 0 1 0 6 0
+0 | dims 4 1 1;threshold 50/1;records 1;1 3 50/1 6;
+
+show --tree in
+AFFTRE01 4 1 1 50 1 1 1 3 50 0 1 0 6 / 3 0
+7 | agglo: tree fault 6: body of 31 bytes;
+
+show --tree in
+AFFTRE01 8 1 1 90 1 3 5 7 100 0 1 0 18 0 1 3 100 0 1 0 6 0 1 5 90 0 1 0 12 0
+7 | agglo: tree fault 10: record 1;";
 
 #[test]
-fn leaves_are_counted_before_a_body_is_read_or_made(rt: HostRuntime) -> Result<(), Fail> {
-    let alloc = rt.alloc();
-    let options = "--low 1 --merge 5/1 --chunk 1,1,1 --workers 1";
-    let bytes = volume(alloc, [64, 64, 65], 3, &[])?;
-    let wanted = "4\nagglo: 266240 leaves are too many\n";
-    check_segment(&rt, alloc, options, &bytes, wanted)?;
-    let trial = format!(in alloc; "trial --start 0 --dims 64,64,65 {options}")?;
-    check(&rt, alloc, trial.as_str(), b"", wanted)
+fn leaves_are_counted_and_trees_are_shown(rt: HostRuntime) -> Result<(), Fail> {
+    check_all(&rt, rt.alloc(), OTHER_ENDS)
 }
+
+const FAULTS: &str = "\
+5 | agglo: input failed;
+65536 open-in 1
+
+5 | agglo: input failed; | 28 bytes left
+65536 read 2
+
+6 | agglo: output failed;
+65536 open-out 1
+
+6 | l AFFLAB01 4 1 | agglo: output failed;
+65536 labels 2
+
+6 | l AFFLAB01 4 1 1 4 0 0 1 1 | agglo: output failed;
+40 open-out 0
+
+6 | l AFFLAB01 4 1 1 4 0 0 1 1 1 1 | agglo: output failed;
+65536 open-out 2
+
+6 | l AFFLAB01 4 1 1 4 0 0 1 1 1 1 | t AFFTRE01 4 1 1 50 1 1 1 3 50 0 | agglo: output failed;
+65536 tree 4
+
+6 | l AFFLAB01 4 1 1 4 0 0 1 1 1 1 | t AFFTRE01 4 1 1 50 1 1 1 3 50 0 1 0 6 0 | voxels 4;basins  | agglo: output failed;
+65536 note 2";
 
 #[test]
 fn faults_leave_a_prefix(rt: HostRuntime) -> Result<(), Fail> {
-    let four = four(rt.alloc())?;
-    let table = [
-        (4096, CallKind::OpenIn, 1, "5\nagglo: input failed\n"),
-        (
-            4096,
-            CallKind::Read,
-            2,
-            "5\nagglo: input failed\n28 bytes left\n",
-        ),
-        (4096, CallKind::OpenOut, 1, "6\nagglo: output failed\n"),
-        (
-            4096,
-            CallKind::Write(Port::Labels),
-            2,
-            "6\nl AFFLAB01 4 1\nagglo: output failed\n",
-        ),
-        (
-            40,
-            CallKind::OpenOut,
-            0,
-            "6\nl AFFLAB01 4 1 1 4 0 0 1 1\nagglo: output failed\n",
-        ),
-        (
-            4096,
-            CallKind::OpenOut,
-            2,
-            "6\nl AFFLAB01 4 1 1 4 0 0 1 1 1 1\nagglo: output failed\n",
-        ),
-        (
-            4096,
-            CallKind::Write(Port::Tree),
-            4,
-            "6\nl AFFLAB01 4 1 1 4 0 0 1 1 1 1\nt AFFTRE01 4 1 1 50 1 1 1 3 50 0\n\
-             agglo: output failed\n",
-        ),
-        (
-            4096,
-            CallKind::Write(Port::Note),
-            2,
-            "6\nl AFFLAB01 4 1 1 4 0 0 1 1 1 1\nt AFFTRE01 4 1 1 50 1 1 1 3 50 0 1 0 6 0\n\
-             voxels 4\nbasins agglo: output failed\n",
-        ),
-    ];
-    for (room, kind, nth, wanted) in table {
-        let failing = Failing {
-            room,
-            at_most: 16,
-            call: (kind, nth),
-        };
-        let ran = run(&rt, rt.alloc(), SEGMENT, &four, failing, &Open)?;
-        assert_eq!(rt; ran.told.as_str(), wanted);
+    for fault in FAULTS.split("\n\n") {
+        let case = format!(in rt.alloc();
+            "segment --volume in --labels l --tree t --low 1 --merge 50/1 --chunk 4,1,1 --workers 1\n\
+             AFFVOL01 4 1 1 3 0 0 / 12 0 / 200 3 / 50 6 / 180 9\n\
+             {fault}"
+        )?;
+        check(&rt, rt.alloc(), case.as_str())?;
     }
     Ok(())
-}
-
-#[test]
-fn trees_are_shown_or_refused(rt: HostRuntime) -> Result<(), Fail> {
-    let alloc = rt.alloc();
-    let one = [1, 3, 50, 0, 1, 0, 6, 0];
-    let tree = tree_file(alloc, [4, 1, 1, 50, 1, 1], &one)?;
-    let exchanged = [
-        5, 7, 100, 0, 1, 0, 18, 0, 1, 3, 100, 0, 1, 0, 6, 0, 1, 5, 90, 0, 1, 0, 12, 0,
-    ];
-    let exchanged = tree_file(alloc, [8, 1, 1, 90, 1, 3], &exchanged)?;
-    let table = [
-        (
-            Some(tree.as_slice()),
-            "0\ndims 4 1 1\nthreshold 50/1\nrecords 1\n1 3 50/1 6\n",
-        ),
-        (tree.get(..63), "7\nagglo: tree fault 6: body of 31 bytes\n"),
-        (
-            Some(exchanged.as_slice()),
-            "7\nagglo: tree fault 10: record 1\n",
-        ),
-    ];
-    for (bytes, wanted) in table {
-        let bytes = bytes.ok_or("the file is long enough")?;
-        check(&rt, alloc, "show --tree in", bytes, wanted)?;
-    }
-    Ok(())
-}
-
-/// A file of a merge tree: the axes, the threshold and the number of merges, and then the numbers of its records.
-fn tree_file(alloc: Global, head: [u32; 6], records: &[u32]) -> Result<Vec<u8>, AllocError> {
-    let mut bytes = header(alloc, b"AFFTRE01", head)?;
-    for number in records {
-        bytes.extend_from_slice(&number.to_le_bytes())?;
-    }
-    Ok(bytes)
 }
 
 #[test]
 fn a_volume_is_made_from_a_number(rt: HostRuntime) -> Result<(), Fail> {
     let text = "make --volume v --start 0 --dims 3,1,1";
     let ran = run(&rt, rt.alloc(), text, b"", NOTHING, &Open)?;
-    let body = [60, 71, 209, 170, 98, 159, 87, 163, 129];
-    assert!(rt; ran.volume.get(32..) == Some(body.as_slice()));
-    assert!(rt; ran.told.as_str().starts_with("0\nv AFFVOL01 3 1 1 3 0 0 "));
-    assert!(rt; ran.told.as_str().ends_with(" and 1 bytes\nvoxels 3\n"));
+    // the bytes 60 71 209 170, then 98 159 87 163, and 129
+    let wanted = "0 | v AFFVOL01 3 1 1 3 0 0 2865841980 2740428642 and 1 bytes | voxels 3;";
+    assert_eq!(rt; ran.told.as_str(), wanted);
+    assert_eq!(rt; ran.volume.last().copied(), Some(129));
     Ok(())
 }
 
-/// The report of a trial with so many workers.
-fn trial<R: Threads + Sync>(rt: &R, alloc: Global, workers: u32) -> Result<String, Fail> {
-    let text = format!(in alloc;
-        "trial --start 7 --dims 16,16,16 --low 20 --merge 128/1 --chunk 4,4,4 --workers {workers}"
-    )?;
-    let ran = run(rt, alloc, text.as_str(), b"", LARGE, &Open)?;
-    Ok(ran.told)
-}
-
-/// The tree file of a volume by chunks of this size.
-fn tree_by_chunks<R: Threads + Sync>(
+/// The outcome of a run on a generated volume.
+fn on_generated<R: Threads + Sync>(
     rt: &R,
     alloc: Global,
+    command: &str,
     volume: &[u8],
-    size: u32,
-) -> Result<Vec<u8>, Fail> {
+    others: [u32; 2],
+) -> Result<Outcome, Fail> {
+    let [size, workers] = others;
     let text = format!(in alloc;
-        "segment --volume in --labels l --tree t --low 20 --merge 128/1 --chunk {size},{size},{size} --workers 4"
+        "{command} --low 20 --merge 128/1 --chunk {size},{size},{size} --workers {workers}"
     )?;
-    let ran = run(rt, alloc, text.as_str(), volume, LARGE, &Open)?;
-    Ok(ran.tree)
+    run(rt, alloc, text.as_str(), volume, NOTHING, &Open)
 }
 
 #[test]
 fn a_generated_volume_is_the_same_in_all_runs(rt: HostRuntime) -> Result<(), Fail> {
     let alloc = rt.alloc();
-    let report = "0\nvoxels 4096\nbasins 1109\nmerges 859\nregions 250\n\
-         level 0 nodes 64 merges 5 passed 1671\nlevel 1 nodes 8 merges 209 passed 1013\n\
-         level 2 nodes 1 merges 645 passed 0\n";
+    let report = "0 | voxels 4096;basins 1109;merges 859;regions 250;\
+         level 0 nodes 64 merges 5 passed 1671;level 1 nodes 8 merges 209 passed 1013;\
+         level 2 nodes 1 merges 645 passed 0;";
     for workers in [1, 8] {
-        let told = trial(&rt, alloc, workers)?;
-        assert_eq!(rt; told.as_str(), report);
+        let trial = "trial --start 7 --dims 16,16,16";
+        let ran = on_generated(&rt, alloc, trial, b"", [4, workers])?;
+        assert_eq!(rt; ran.told.as_str(), report);
     }
-    let text = "make --volume v --start 7 --dims 16,16,16";
-    let made = run(&rt, alloc, text, b"", LARGE, &Open)?;
-    let whole = tree_by_chunks(&rt, alloc, &made.volume, 16)?;
-    let cut = tree_by_chunks(&rt, alloc, &made.volume, 4)?;
-    assert_eq!(rt; cut.len(), 32 + 32 * 859);
-    assert!(rt; cut.as_slice() == whole.as_slice());
+    let make = "make --volume v --start 7 --dims 16,16,16";
+    let made = run(&rt, alloc, make, b"", NOTHING, &Open)?;
+    let segment = "segment --volume in --labels l --tree t";
+    let whole = on_generated(&rt, alloc, segment, &made.volume, [16, 4])?;
+    let cut = on_generated(&rt, alloc, segment, &made.volume, [4, 4])?;
+    assert_eq!(rt; cut.tree.len(), 32 + 32 * 859);
+    assert!(rt; cut.tree.as_slice() == whole.tree.as_slice());
     Ok(())
 }
 
@@ -679,6 +517,21 @@ impl Gate for Meeting {
 }
 
 impl Meeting {
+    fn new() -> Meeting {
+        Meeting {
+            passes: [
+                AtomicU32::new(0),
+                AtomicU32::new(0),
+                AtomicU32::new(0),
+                AtomicU32::new(0),
+                AtomicU32::new(0),
+                AtomicU32::new(0),
+                AtomicU32::new(0),
+            ],
+            given_up: AtomicU32::new(0),
+        }
+    }
+
     /// Comes back when both leaves have come, or after a long time.
     fn meet(&self) {
         for _ in 0..1_000_000_000 {
@@ -690,31 +543,35 @@ impl Meeting {
         }
         self.given_up.fetch_add(1, Ordering::SeqCst);
     }
+
+    /// How often each node has passed, and how often a leaf was held in vain.
+    fn told(&self, alloc: Global) -> Result<String, Fail> {
+        let mut told = String::new(alloc);
+        for passes in &self.passes {
+            let passes = passes.load(Ordering::SeqCst);
+            write!(told, "{passes} ")?;
+        }
+        let given_up = self.given_up.load(Ordering::SeqCst);
+        write!(told, "and {given_up}")?;
+        Ok(told)
+    }
 }
 
 #[test]
 fn two_lanes_run_at_once_and_each_node_passes_once(rt: HostRuntime) -> Result<(), Fail> {
     let alloc = rt.alloc();
-    let gate = Meeting {
-        passes: [
-            AtomicU32::new(0),
-            AtomicU32::new(0),
-            AtomicU32::new(0),
-            AtomicU32::new(0),
-            AtomicU32::new(0),
-            AtomicU32::new(0),
-            AtomicU32::new(0),
-        ],
-        given_up: AtomicU32::new(0),
-    };
+    let gate = Meeting::new();
     let text =
         "segment --volume in --labels l --tree t --low 1 --merge 90/1 --chunk 2,1,1 --workers 2";
-    let ran = run(&rt, alloc, text, &row(alloc, &EIGHT, 0)?, NOTHING, &gate)?;
-    assert!(rt; ran.told.as_str().starts_with(EIGHT_FILES));
-    for passes in &gate.passes {
-        assert_eq!(rt; passes.load(Ordering::SeqCst), 1);
-    }
-    assert_eq!(rt; gate.given_up.load(Ordering::SeqCst), 0);
+    let bytes = file(
+        alloc,
+        "AFFVOL01 8 1 1 3 0 0 / 24 0 / 200 3 9 15 21 / 100 6 18 / 90 12",
+    )?;
+    let ran = run(&rt, alloc, text, &bytes, NOTHING, &gate)?;
+    let files = "0 | l AFFLAB01 8 1 1 4 0 0 1 1 1 1 1 1 1 1 | \
+         t AFFTRE01 8 1 1 90 1 3 1 3 100 0 1 0 6 0 5 7 100 0 1 0 18 0 1 5 90 0 1 0 12 0 | ";
+    assert!(rt; ran.told.as_str().starts_with(files));
+    assert_eq!(rt; gate.told(alloc)?.as_str(), "1 1 1 1 1 1 1 and 0");
     Ok(())
 }
 
@@ -733,17 +590,17 @@ fn run_on_files<R: Threads + Sync + Files + Print + Eprint>(
 
 #[test]
 fn reads_and_writes_real_files(rt: HostRuntime) -> Result<(), Fail> {
-    fs::write(&rt, "agglo_test.vol", &four(rt.alloc())?)?;
-    let status = run_on_files(&rt, rt.alloc())?;
-    assert_eq!(rt; status, 0);
-    let labels = numbers(rt.alloc(), &fs::read(&rt, "agglo_test.lab")?)?;
+    let alloc = rt.alloc();
+    let bytes = file(alloc, "AFFVOL01 4 1 1 3 0 0 / 12 0 / 200 3 / 50 6 / 180 9")?;
+    fs::write(&rt, "agglo_test.vol", &bytes)?;
+    assert_eq!(rt; run_on_files(&rt, alloc)?, 0);
+    let labels = numbers(alloc, &fs::read(&rt, "agglo_test.lab")?)?;
     assert_eq!(rt; labels.as_str(), "AFFLAB01 4 1 1 4 0 0 1 1 1 1");
-    let tree = numbers(rt.alloc(), &fs::read(&rt, "agglo_test.tree")?)?;
+    let tree = numbers(alloc, &fs::read(&rt, "agglo_test.tree")?)?;
     assert_eq!(rt; tree.as_str(), "AFFTRE01 4 1 1 50 1 1 1 3 50 0 1 0 6 0");
     for name in ["agglo_test.vol", "agglo_test.lab", "agglo_test.tree"] {
         fs::remove_file(&rt, name)?;
     }
-    let status = run_on_files(&rt, rt.alloc())?;
-    assert_eq!(rt; status, 5);
+    assert_eq!(rt; run_on_files(&rt, alloc)?, 5);
     Ok(())
 }

@@ -16,6 +16,7 @@ use agglo_model::laws::bounded_labels;
 use agglo_model::laws_of_merging::greedy_merges_are_lawful;
 use command_words::laws::{one_task, sizes_are_some};
 use command_words::{Job, read_words};
+use mean_fraction::Threshold;
 use merge_tree::Tree;
 use refusals::{Refusal, tell};
 use seg_base::Dims;
@@ -117,6 +118,28 @@ fn run<R: Threads + Sync, D: Desk, G: Gate>(
     }
 }
 
+/// How a volume is cut into leaves, and how it is segmented.
+#[derive(Clone, Copy)]
+struct Plan {
+    chunk: [u32; 3],
+    settings: Settings,
+}
+
+impl Plan {
+    fn new(chunk: [u32; 3], low: u8, threshold: Threshold, workers: u32) -> Plan
+        ensures { result ≡ record { chunk = chunk; settings = record { low = low; threshold = threshold; workers = workers } } }
+    {
+        Plan {
+            chunk,
+            settings: Settings {
+                low,
+                threshold,
+                workers,
+            },
+        }
+    }
+}
+
 /// The run of one job.
 fn run_job<R: Threads + Sync, D: Desk, G: Gate>(
     rt: &R,
@@ -151,21 +174,8 @@ fn run_job<R: Threads + Sync, D: Desk, G: Gate>(
                 labels: labels.as_str(),
                 tree: tree.as_str(),
             };
-            let settings = Settings {
-                low: *low,
-                threshold: *threshold,
-                workers: *workers,
-            };
-            run_segment(
-                rt,
-                alloc,
-                desk,
-                volume.as_str(),
-                names,
-                *chunk,
-                &settings,
-                gate,
-            )
+            let plan = Plan::new(*chunk, *low, *threshold, *workers);
+            run_segment(rt, alloc, desk, volume.as_str(), names, &plan, gate)
         }
         Job::Make {
             volume,
@@ -180,12 +190,8 @@ fn run_job<R: Threads + Sync, D: Desk, G: Gate>(
             chunk,
             workers,
         } => {
-            let settings = Settings {
-                low: *low,
-                threshold: *threshold,
-                workers: *workers,
-            };
-            run_trial(rt, alloc, desk, *start, dims, *chunk, &settings, gate)
+            let plan = Plan::new(*chunk, *low, *threshold, *workers);
+            run_trial(rt, alloc, desk, *start, dims, &plan, gate)
         }
         Job::Show { tree } => run_show(alloc, desk, tree.as_str()),
     }
@@ -220,20 +226,19 @@ fn run_segment<R: Threads + Sync, D: Desk, G: Gate>(
     desk: &mut D,
     volume: &str,
     names: Names<'_>,
-    chunk: [u32; 3],
-    settings: &Settings,
+    plan: &Plan,
     gate: &G,
 ) -> Result<(), Refusal>
     requires fresh { IsFresh (D.state desk.old) }
-    requires sizes { AreSomeSizes chunk }
+    requires sizes { AreSomeSizes plan.now.chunk }
     ensures { let task = Segment (record {
       volume = volume.now;
       labels = names.entry.labels.now;
       tree = names.entry.tree.now;
-      low = settings.now.low;
-      threshold = settings.now.threshold;
-      chunk = chunk;
-      workers = settings.now.workers;
+      low = plan.now.settings.low;
+      threshold = plan.now.settings.threshold;
+      chunk = plan.now.chunk;
+      workers = plan.now.settings.workers;
     }) in
         MatchResult result
         (λ _. FinishesTask task (D.state desk.old) (D.state desk.new))
@@ -241,11 +246,11 @@ fn run_segment<R: Threads + Sync, D: Desk, G: Gate>(
 {
     bounded_labels();
     greedy_merges_are_lawful();
-    let read = read_cut_volume(alloc, desk, volume, chunk)?;
-    let answer = segment(rt, alloc, &read.volume, &read.cutting, settings, gate)?;
+    let read = read_cut_volume(alloc, desk, volume, plan.chunk)?;
+    let answer = segment(rt, alloc, &read.volume, &read.cutting, &plan.settings, gate)?;
     let report = report_text(alloc, &answer)?;
     let Answer { labels, merges, .. } = answer;
-    let tree = Tree::of(read.volume.dims(), settings.threshold, merges);
+    let tree = Tree::of(read.volume.dims(), plan.settings.threshold, merges);
     match write_segmentation(desk, names, &labels, &tree, report.as_str()) {
         Ok(()) => Ok(()),
         Err(_) => Err(Refusal::Output),
@@ -281,26 +286,25 @@ fn run_trial<R: Threads + Sync, D: Desk, G: Gate>(
     desk: &mut D,
     start: u32,
     dims: &Dims,
-    chunk: [u32; 3],
-    settings: &Settings,
+    plan: &Plan,
     gate: &G,
 ) -> Result<(), Refusal>
-    requires sizes { AreSomeSizes chunk }
+    requires sizes { AreSomeSizes plan.now.chunk }
     ensures { let task = Trial (record {
       start = start;
       axes = dims.now;
-      low = settings.now.low;
-      threshold = settings.now.threshold;
-      chunk = chunk;
-      workers = settings.now.workers;
+      low = plan.now.settings.low;
+      threshold = plan.now.settings.threshold;
+      chunk = plan.now.chunk;
+      workers = plan.now.settings.workers;
     }) in
         MatchResult result
         (λ _. FinishesTask task (D.state desk.old) (D.state desk.new))
         (λ refusal. RefusesTask task refusal (D.state desk.old) (D.state desk.new)) }
 {
-    let cutting = cut(dims, chunk)?;
+    let cutting = cut(dims, plan.chunk)?;
     let volume = generate(alloc, start, dims)?;
-    let answer = segment(rt, alloc, &volume, &cutting, settings, gate)?;
+    let answer = segment(rt, alloc, &volume, &cutting, &plan.settings, gate)?;
     let report = report_text(alloc, &answer)?;
     match put_all(desk, Port::Note, report.as_bytes()) {
         Ok(()) => Ok(()),

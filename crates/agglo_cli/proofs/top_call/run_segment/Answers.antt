@@ -6,7 +6,7 @@ use Rattle.agglo_cli.proofs.Segmented.{lawful, answer_is}
 use Rattle.agglo_cli.proofs.top_call.run_segment.Goals as goal
 
 pub of-tree-requires : goal.of-tree-requires
-of-tree-requires g c = subst (λ (a : Axes). AreLawful a c.args.settings.now.threshold c.in_ok-answer.answer.merges.items) (sym c.dims.ensures.value)
+of-tree-requires g c = subst (λ (a : Axes). AreLawful a c.args.plan.now.settings.threshold c.in_ok-answer.answer.merges.items) (sym c.dims.ensures.value)
     (lawful _ _ _ _ _ _ _ _ c.greedy_merges_are_lawful.ensures c.bounded_labels.ensures c.dims.ensures.whole c.in_ok-answer.ensures.answer)
 
 pub returns-in-Ok : goal.returns-in-Ok
@@ -26,12 +26,12 @@ returns-in-Ok g c = record {
       volume = c.args.volume.now;
       labels = c.args.names.labels.now;
       tree = c.args.names.tree.now;
-      low = c.args.settings.now.low;
-      threshold = c.args.settings.now.threshold;
-      chunk = c.args.chunk;
-      workers = c.args.settings.now.workers;
+      low = c.args.plan.now.settings.low;
+      threshold = c.args.plan.now.settings.threshold;
+      chunk = c.args.plan.now.chunk;
+      workers = c.args.plan.now.settings.workers;
     }) _ _ _ _ _ _ _ _ c.in_ok-answer.ensures.axes
-        (c.of-tree.ensures ∙ ap (λ (a : Axes). record { axes = a; threshold = c.args.settings.now.threshold; merges = c.in_ok-answer.answer.merges.items }) c.dims.ensures.value)
+        (c.of-tree.ensures ∙ ap (λ (a : Axes). record { axes = a; threshold = c.args.plan.now.settings.threshold; merges = c.in_ok-answer.answer.merges.items }) c.dims.ensures.value)
         (c.as_str.ensures.value ∙ c.in_ok-report.ensures);
   };
   wrote = c.in-Ok.ensures;
@@ -54,12 +54,12 @@ returns g c = record {
       volume = c.args.volume.now;
       labels = c.args.names.labels.now;
       tree = c.args.names.tree.now;
-      low = c.args.settings.now.low;
-      threshold = c.args.settings.now.threshold;
-      chunk = c.args.chunk;
-      workers = c.args.settings.now.workers;
+      low = c.args.plan.now.settings.low;
+      threshold = c.args.plan.now.settings.threshold;
+      chunk = c.args.plan.now.chunk;
+      workers = c.args.plan.now.settings.workers;
     }) _ _ _ _ _ _ _ _ c.in_ok-answer.ensures.axes
-        (c.of-tree.ensures ∙ ap (λ (a : Axes). record { axes = a; threshold = c.args.settings.now.threshold; merges = c.in_ok-answer.answer.merges.items }) c.dims.ensures.value)
+        (c.of-tree.ensures ∙ ap (λ (a : Axes). record { axes = a; threshold = c.args.plan.now.settings.threshold; merges = c.in_ok-answer.answer.merges.items }) c.dims.ensures.value)
         (c.as_str.ensures.value ∙ c.in_ok-report.ensures);
   };
   stopped = c.in-Err.ensures;

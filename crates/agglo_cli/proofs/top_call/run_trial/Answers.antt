@@ -9,10 +9,10 @@ returns-in-Ok g c = record {
   found = found_trial (record {
     start = c.args.start;
     axes = c.args.dims.now;
-    low = c.args.settings.now.low;
-    threshold = c.args.settings.now.threshold;
-    chunk = c.args.chunk;
-    workers = c.args.settings.now.workers;
+    low = c.args.plan.now.settings.low;
+    threshold = c.args.plan.now.settings.threshold;
+    chunk = c.args.plan.now.chunk;
+    workers = c.args.plan.now.settings.workers;
   }) _ _ _ _ _ _ _ _ _ c.in_ok-volume.ensures c.in_ok-cutting.ensures.1 c.in_ok-cutting.ensures.0 c.in_ok-answer.ensures.axes
       c.in_ok-answer.ensures.answer (c.as_bytes.ensures.value ∙ c.in_ok-report.ensures);
   wrote = c.in-Ok.ensures;
@@ -25,10 +25,10 @@ returns g c = record {
   found = found_trial (record {
     start = c.args.start;
     axes = c.args.dims.now;
-    low = c.args.settings.now.low;
-    threshold = c.args.settings.now.threshold;
-    chunk = c.args.chunk;
-    workers = c.args.settings.now.workers;
+    low = c.args.plan.now.settings.low;
+    threshold = c.args.plan.now.settings.threshold;
+    chunk = c.args.plan.now.chunk;
+    workers = c.args.plan.now.settings.workers;
   }) _ _ _ _ _ _ _ _ _ c.in_ok-volume.ensures c.in_ok-cutting.ensures.1 c.in_ok-cutting.ensures.0 c.in_ok-answer.ensures.axes
       c.in_ok-answer.ensures.answer (c.as_bytes.ensures.value ∙ c.in_ok-report.ensures);
   stopped = c.in-Err.ensures;
