@@ -7,6 +7,7 @@ use crate::links::link_all;
 use crate::merging::{LinkedGraph, merge_mates};
 use crate::pairs::{note_merges, pair_up};
 use crate::residue::leave;
+use crate::trimming::trim;
 use agglo_model::Memory;
 use mean_fraction::Threshold;
 use merge_tree::Merge;
@@ -51,7 +52,8 @@ pub fn settle(
     })
 }
 
-/// Merges reciprocal pairs in rounds until there is none.
+/// Merges reciprocal pairs in rounds until there is none. Regions that no merge takes any more are let go
+/// before each round, so that a round looks at the others alone.
 fn merge_all(
     alloc: Global,
     start: LinkedGraph,
@@ -65,6 +67,7 @@ fn merge_all(
     let mut graph = start;
     let mut merges = Vec::new(alloc);
     loop {
+        graph = trim(alloc, &graph, threshold, frozen)?;
         let pairing = pair_up(alloc, &graph.regions, &graph.links, threshold, frozen)?;
         if pairing.pairs.is_empty() {
             return Ok(Progress { graph, merges });
