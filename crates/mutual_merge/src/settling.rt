@@ -1,4 +1,4 @@
-ghost use Rattle.std.specs.Prelude.{IfOk};
+ghost use Rattle.std.specs.Prelude.{◌≡◌, IfOk};
 ghost use Rattle.agglo_model.specs.Settling.{Settles};
 ghost use Rattle.mutual_merge.specs.Left.{HasSettled};
 ghost use Rattle.mutual_merge.specs.Linked.{AreLinked, graph_of};
@@ -38,17 +38,25 @@ pub fn settle(
 ) -> Result<Settled, Memory>
     ensures { IfOk result (λ settled. Settles threshold.now frozen graph settled.merges.items settled.residue) }
 {
-    let parts = graph.into_parts();
-    let links = link_all(alloc, &parts.regions, &parts.edges)?;
-    let start = LinkedGraph {
-        regions: parts.regions,
-        links,
-    };
+    let start = linked(alloc, graph)?;
     let last = merge_all(alloc, start, threshold, frozen)?;
     let residue = leave(alloc, last.graph, threshold, frozen)?;
     Ok(Settled {
         residue,
         merges: last.merges,
+    })
+}
+
+/// The graph with links in the place of its edges, which are given up.
+fn linked(alloc: Global, graph: Graph) -> Result<LinkedGraph, Memory>
+    ensures linked { IfOk result (λ start. AreLinked start.regions.items start.links.items) }
+    ensures same { IfOk result (λ start. graph_of start.regions.items start.links.items ≡ graph) }
+{
+    let parts = graph.into_parts();
+    let links = link_all(alloc, &parts.regions, &parts.edges)?;
+    Ok(LinkedGraph {
+        regions: parts.regions,
+        links,
     })
 }
 
