@@ -13,11 +13,11 @@ fn main() -> Result<()> {
         ["noise", side, path] => write_volume(path, side.parse().unwrap(), noise),
         ["cells", side, path] => write_volume(path, side.parse().unwrap(), cells),
         ["basins", volume, labels, low] => basins(volume, labels, low.parse().unwrap()),
-        ["segment", volume, labels, tree, low, merge] => {
-            plain_segment::segment(volume, labels, tree, low.parse().unwrap(), merge)
+        [word @ ("segment" | "phases"), volume, labels, tree, low, merge] => {
+            plain_segment::segment(volume, labels, tree, low.parse().unwrap(), merge, *word == "phases")
         }
         _ => {
-            eprintln!("plain: noise|cells SIDE FILE, basins VOLUME LABELS LOW, or segment VOLUME LABELS TREE LOW P/Q");
+            eprintln!("plain: noise|cells SIDE FILE, basins VOLUME LABELS LOW, or segment|phases VOLUME LABELS TREE LOW P/Q");
             std::process::exit(2)
         }
     }

@@ -53,18 +53,52 @@ struct Merge {
     contact: Contact,
 }
 
-pub fn segment(volume: &str, labels: &str, tree: &str, low: u8, merge: &str) -> Result<()> {
+pub fn segment(volume: &str, labels: &str, tree: &str, low: u8, merge: &str, tell: bool) -> Result<()> {
     let (p, q) = merge.split_once('/').unwrap();
     let threshold = Threshold { p: p.parse().unwrap(), q: q.parse().unwrap() };
+    let mut clock = Clock::new(tell);
     let (axes, body) = read_volume(volume)?;
+    clock.lap("read");
     let mut list = label(axes, &body, low);
+    clock.lap("basins");
     let names = number_regions(&mut list);
     let pairs = summed(contacts(axes, &body, &list));
     drop(body);
+    clock.lap("graph");
     let merges = Agglomeration::new(names.clone(), pairs, threshold).run();
+    clock.lap("merging");
     rename(&mut list, &names, &merges);
+    clock.lap("relabelling");
     write_labels(labels, axes, &list)?;
-    write_tree(tree, axes, threshold, &merges)
+    write_tree(tree, axes, threshold, &merges)?;
+    clock.lap("write");
+    Ok(())
+}
+
+/// Tells the processor time of each phase on standard error, where it is to.
+struct Clock {
+    tell: bool,
+    last: f64,
+}
+
+impl Clock {
+    fn new(tell: bool) -> Clock {
+        Clock { tell, last: processor_seconds() }
+    }
+
+    fn lap(&mut self, phase: &str) {
+        let now = processor_seconds();
+        if self.tell {
+            eprintln!("{phase} {:.4}", now - self.last);
+        }
+        self.last = now;
+    }
+}
+
+/// How long this thread was on a processor, as Linux counts it; 0 elsewhere.
+fn processor_seconds() -> f64 {
+    let counts = std::fs::read_to_string("/proc/thread-self/schedstat").unwrap_or_default();
+    counts.split(' ').next().and_then(|word| word.parse::<f64>().ok()).unwrap_or(0.0) / 1e9
 }
 
 /// Marks a basin's number where its name has stood, at the voxel that it is named for.

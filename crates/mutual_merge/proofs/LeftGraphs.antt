@@ -32,7 +32,7 @@ Contains-filter p (y ∷ xs) x inside pass =
     step false (inl same) passes rest = absurd (false≢true (passes same))
     step false (inr later) passes rest = rest later
 
-Contains-unfilter : {X : Type 0} (p : X → Bool) (xs : List X) (x : X) → Contains (filter p xs) x → Contains xs x × (p x ≡ true)
+pub Contains-unfilter : {X : Type 0} (p : X → Bool) (xs : List X) (x : X) → Contains (filter p xs) x → Contains xs x × (p x ≡ true)
 Contains-unfilter p xs x inside = (
   All-contains (Contains xs) (filter p xs) x (All-filter p (Contains xs) xs (All-contains_itself xs)) inside,
   All-contains (λ y. p y ≡ true) (filter p xs) x (filter_passes p xs) inside,

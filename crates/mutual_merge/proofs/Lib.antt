@@ -9,4 +9,6 @@ pub mod MergedMates
 pub mod PairRounds
 pub mod KeptRegions
 pub mod LeftGraphs
+pub mod KeptPlaces
+pub mod TrimmedGraphs
 pub mod SampleGraphs

@@ -4,7 +4,7 @@ use Rattle.std.specs.List.{range_with_len}
 use Rattle.agglo_model.specs.PairOrder.{Threshold, Reaches}
 use Rattle.agglo_model.specs.Greedy.{Merge}
 use Rattle.agglo_model.specs.RegionGraph.{Region, RegionGraph, GraphEdge}
-use Rattle.agglo_model.specs.Settling.{SettlesInto}
+use Rattle.agglo_model.specs.Settling.{IsLeftOf, Settles}
 use Rattle.mutual_merge.specs.declared.links.Link.{Link}
 use Rattle.mutual_merge.specs.Linked.{AreLinked, IsAtPlace, region_at, faces_at, name_at, edges_by, graph_of}
 
@@ -44,7 +44,8 @@ abbrev pub kept_edges : List Region → List Link → List Bool → List GraphEd
 kept_edges regions links kept =
     edges_by (name_at regions) (filter (λ l. is_kept kept l.a && is_kept kept l.b) links)
 
--- the merges settle the graph, and these regions and links are the graph after them
+-- After these merges of a graph there are these regions and links, but for regions that no merge takes any
+-- more: what is left of them is left of the graph that the merges settle.
 pub record HasSettled (t : Threshold) (faces : ℕ) (graph : RegionGraph) (merges : List Merge) (regions : List Region) (links : List Link) : Type 0 where
   pub linked : AreLinked regions links
-  pub settled : SettlesInto t faces graph merges (graph_of regions links)
+  pub settles : (left : RegionGraph) → IsLeftOf t faces (graph_of regions links) left → Settles t faces graph merges left

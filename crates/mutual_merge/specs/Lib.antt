@@ -3,4 +3,5 @@ pub mod Firsts
 pub mod Pairs
 pub mod Merged
 pub mod Left
+pub mod Trimmed
 pub mod Samples

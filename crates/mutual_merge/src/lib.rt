@@ -13,5 +13,6 @@ mod residue;
 mod settling;
 #[cfg(test)]
 mod tests;
+mod trimming;
 
 pub use settling::{Settled, settle};

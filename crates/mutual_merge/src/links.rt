@@ -23,15 +23,81 @@ pub fn link_all(alloc: Global, regions: &[Region], edges: &[Edge]) -> Result<Vec
     ensures same_edges { IfOk result (λ links. edges_by (name_at regions.now) links.items ≡ edges.now) }
 {
     see_fit(regions);
+    let guesses = guess_places(alloc, regions)?;
     let mut links = Vec::with_capacity(alloc, edges.len())?;
     for edge in edges {
         links.push(Link {
-            a: place_of(regions, edge.a),
-            b: place_of(regions, edge.b),
+            a: place_by(regions, &guesses, edge.a),
+            b: place_by(regions, &guesses, edge.b),
             contact: edge.contact,
         })?;
     }
     Ok(links)
+}
+
+/// A table of the places of regions, by how far their names are above the first one. Nothing is known of what
+/// stands there, so a place is looked at before it is relied on.
+#[derive(Drop)]
+struct Guesses {
+    first: u32,
+    places: Vec<u32>,
+}
+
+/// For so many names of each region there is a table.
+const NAMES_OF_EACH: usize = 16;
+
+/// The table of the places of these regions, or an empty one where their names are far apart.
+fn guess_places(alloc: Global, regions: &[Region]) -> Result<Guesses, Memory>
+    requires { length regions.now ≤ 2 ^ 32 }
+{
+    let count = regions.len();
+    if count == 0 {
+        let places = Vec::new(alloc);
+        return Ok(Guesses { first: 0, places });
+    }
+    let first = name_of(regions, 0);
+    let last = name_of(regions, count - 1);
+    let span = last.saturating_sub(first) as usize;
+    let length = if span / NAMES_OF_EACH < count {
+        span + 1
+    } else {
+        0
+    };
+    let mut places = Vec::from_elem(alloc, 0, length)?;
+    for (place, region) in regions.iter().enumerate() {
+        let above = region.name.saturating_sub(first) as usize;
+        if above < places.len() {
+            places[above] = place as u32;
+        }
+    }
+    Ok(Guesses { first, places })
+}
+
+impl Guesses {
+    /// The place that the table has for a name.
+    fn guess(&self, name: u32) -> u32 {
+        let above = name.saturating_sub(self.first) as usize;
+        if above < self.places.len() {
+            self.places[above]
+        } else {
+            0
+        }
+    }
+}
+
+/// The place of the region of this name. The guess is looked at first.
+fn place_by(regions: &[Region], guesses: &Guesses, name: u32) -> u32
+    requires ascend { Ascend regions.now }
+    requires there { HasRegion (record { regions = regions.now; edges = [] }) name }
+    ensures within { result < length regions.now }
+    ensures named { name_at regions.now result ≡ name }
+{
+    let guess = guesses.guess(name);
+    if (guess as usize) < regions.len() && name_of(regions, guess as usize) == name {
+        guess
+    } else {
+        place_of(regions, name)
+    }
 }
 
 /// The place of the region of this name.

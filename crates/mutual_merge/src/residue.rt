@@ -30,7 +30,7 @@ pub fn leave(
 }
 
 /// Whether each region is left.
-fn choose(
+pub fn choose(
     alloc: Global,
     regions: &[Region],
     links: &[Link],

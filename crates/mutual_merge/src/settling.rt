@@ -1,4 +1,4 @@
-ghost use Rattle.std.specs.Prelude.{IfOk};
+ghost use Rattle.std.specs.Prelude.{◌≡◌, IfOk};
 ghost use Rattle.agglo_model.specs.Settling.{Settles};
 ghost use Rattle.mutual_merge.specs.Left.{HasSettled};
 ghost use Rattle.mutual_merge.specs.Linked.{AreLinked, graph_of};
@@ -7,6 +7,7 @@ use crate::links::link_all;
 use crate::merging::{LinkedGraph, merge_mates};
 use crate::pairs::{note_merges, pair_up};
 use crate::residue::leave;
+use crate::trimming::trim;
 use agglo_model::Memory;
 use mean_fraction::Threshold;
 use merge_tree::Merge;
@@ -37,12 +38,7 @@ pub fn settle(
 ) -> Result<Settled, Memory>
     ensures { IfOk result (λ settled. Settles threshold.now frozen graph settled.merges.items settled.residue) }
 {
-    let parts = graph.into_parts();
-    let links = link_all(alloc, &parts.regions, &parts.edges)?;
-    let start = LinkedGraph {
-        regions: parts.regions,
-        links,
-    };
+    let start = linked(alloc, graph)?;
     let last = merge_all(alloc, start, threshold, frozen)?;
     let residue = leave(alloc, last.graph, threshold, frozen)?;
     Ok(Settled {
@@ -51,7 +47,21 @@ pub fn settle(
     })
 }
 
-/// Merges reciprocal pairs in rounds until there is none.
+/// The graph with links in the place of its edges, which are given up.
+fn linked(alloc: Global, graph: Graph) -> Result<LinkedGraph, Memory>
+    ensures linked { IfOk result (λ start. AreLinked start.regions.items start.links.items) }
+    ensures same { IfOk result (λ start. graph_of start.regions.items start.links.items ≡ graph) }
+{
+    let parts = graph.into_parts();
+    let links = link_all(alloc, &parts.regions, &parts.edges)?;
+    Ok(LinkedGraph {
+        regions: parts.regions,
+        links,
+    })
+}
+
+/// Merges reciprocal pairs in rounds until there is none. Regions that no merge takes any more are let go
+/// before each round, so that a round looks at the others alone.
 fn merge_all(
     alloc: Global,
     start: LinkedGraph,
@@ -65,6 +75,7 @@ fn merge_all(
     let mut graph = start;
     let mut merges = Vec::new(alloc);
     loop {
+        graph = trim(alloc, &graph, threshold, frozen)?;
         let pairing = pair_up(alloc, &graph.regions, &graph.links, threshold, frozen)?;
         if pairing.pairs.is_empty() {
             return Ok(Progress { graph, merges });

@@ -9,7 +9,7 @@ use Rattle.agglo_model.specs.Grid.{Grid, affinity}
 use Rattle.agglo_model.specs.Contacts.{are, differ, is_contact_edge, joins, lower_label, higher_label}
 use Rattle.agglo_model.specs.RegionGraph.{GraphEdge}
 use Rattle.agglo_model.proofs.Members.{All-from_contains}
-use Rattle.region_graph.specs.Lists.{SameContacts, Gains, count_of, order_of, with_contact}
+use Rattle.region_graph.specs.Lists.{AreOrdered, SameContacts, count_of}
 use Rattle.region_graph.specs.Boxes.{GainsContacts, ends_among, in_run}
 use Rattle.region_graph.proofs.Gaining.{each_more}
 use Rattle.region_graph.proofs.ContactGains.{alone, gains-nothing, gains-both, gains-same, gains-edge}
@@ -109,9 +109,9 @@ pub summed_edge : (g : Grid) (labels : List ℕ) (axis from v : ℕ) (es fs gs :
       b = max lower higher;
       contact = record { sum = affinity g (3 * v + axis); count = 1; tie = 3 * v + axis };
     }
-    → Gains order_of with_contact new fs gs → SameContacts (fs ++ new ∷ []) gs → count_of gs ≡ count_of fs + new.contact.count
+    → (AreOrdered fs → new.a < new.b → AreOrdered gs) → SameContacts (fs ++ new ∷ []) gs → count_of gs ≡ count_of fs + new.contact.count
     → IsSummedTo g labels axis from (v + 1) es gs
-summed_edge g labels axis from v es fs gs lower higher has low so_far lower_at higher_at other some_higher some_lower new new_is gained same count =
+summed_edge g labels axis from v es fs gs lower higher has low so_far lower_at higher_at other some_higher some_lower new new_is orders same count =
     let k = 3 * v + axis in
     let one : count_of gs ≡ count_of fs + 1 = count ∙ ap (λ (e : GraphEdge). count_of fs + e.contact.count) new_is in
     let so_many = so_far.count in
@@ -130,9 +130,7 @@ summed_edge g labels axis from v es fs gs lower higher has low so_far lower_at h
       gains = one_more g labels axis from v es fs gs has.axis_is low so_far.gains
           (gains-edge g labels k fs gs (number_below g v axis has) contact
           (subst (λ e. SameContacts (fs ++ e ∷ []) gs) is_alone same)
-          (λ ordered. All-from_contains (λ e. e.a < e.b) gs
-          (each_more (λ e. e.a < e.b) order_of with_contact new fs gs in_order (λ last below. below)
-          (λ e inside. All-contains (λ f. f.a < f.b) fs e ordered inside) gained)));
+          (λ ordered. orders ordered in_order));
       count = omega (arith, one);
     }
 

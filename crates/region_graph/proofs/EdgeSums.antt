@@ -16,7 +16,7 @@ use Rattle.region_graph.proofs.Gaining.{AreKeyed, none_keyed, keyed_more, each_m
 
 -- ---- edges by their places in order
 
-same_names : (a b p q : ℕ) → b < 2 ^ 32 → q < 2 ^ 32 → 2 ^ 32 * a + b ≡ 2 ^ 32 * p + q → (a ≡ p) × (b ≡ q)
+pub same_names : (a b p q : ℕ) → b < 2 ^ 32 → q < 2 ^ 32 → 2 ^ 32 * a + b ≡ 2 ^ 32 * p + q → (a ≡ p) × (b ≡ q)
 same_names a b p q fits other same = (omega arith, omega arith)
 
 stands_before : (a b p q : ℕ) → b < 2 ^ 32 → q < 2 ^ 32 → 2 ^ 32 * a + b < 2 ^ 32 * p + q → (a < p) ⊎ ((a ≡ p) × (b < q))

@@ -1,4 +1,5 @@
 pub mod RegionLists
+pub mod TakenAt
 pub mod Gaining
 pub mod EdgeSums
 pub mod RegionSums

@@ -12,7 +12,7 @@ use mathlib.Core.Path.{fun_ext}
 use Rattle.agglo_model.specs.Axes.{Axes, voxel_count}
 use Rattle.agglo_model.specs.Basins.{label_of}
 use Rattle.agglo_model.specs.RegionGraph.{Region}
-use Rattle.region_graph.specs.Lists.{has_name, faces_in}
+use Rattle.region_graph.specs.Lists.{AreNamed, SameRegions, has_name, faces_in}
 use Rattle.region_graph.specs.Boxes.{GainsNames, in_run, name_among}
 use Rattle.region_graph.proofs.RegionLists.{has_bit, has_bit-or, same_by_bits}
 use Rattle.region_graph.proofs.VoxelTests.{same_tests}
@@ -196,12 +196,7 @@ names-voxel a labels k faces es below some =
           ∙ ap (λ b. cond b (bit_or (faces_in es x) faces) (faces_in es x)) (sym (among-one a labels k x below));
     }
 
--- ---- a run of voxels, each name told where it differs from the one before
-
--- the names of the run up to v were gained, and the last label is background or among them
-pub record IsToldTo (a : Axes) (labels : List ℕ) (from v faces : ℕ) (before now : List Region) (last : ℕ) : Type 0 where
-  pub gains : GainsNames a labels (in_run from v) faces before now
-  pub known : last ≢ 0 → name_among a labels (in_run from v) last ≡ true
+-- ---- a run of voxels
 
 run_of : (from v w : ℕ) → from ≤ v → ((leb from w && ltb w v) || eqb w v) ≡ (leb from w && ltb w (v + 1))
 run_of from v w low = grind (arith, nat_tests)
@@ -209,60 +204,53 @@ run_of from v w low = grind (arith, nat_tests)
 none_of : (from w : ℕ) → (leb from w && ltb w from) ≡ false
 none_of from w = grind (arith, nat_tests)
 
-last_of : (from v : ℕ) → from ≤ v → (leb from v && ltb v (v + 1)) ≡ true
-last_of from v low = grind (arith, nat_tests)
-
-pub told_none : (a : Axes) (labels : List ℕ) (from faces : ℕ) (es : List Region) → IsToldTo a labels from from faces es es 0
-told_none a labels from faces es = record {
-  gains = names-nothing a labels (in_run from from) faces es (none_of from);
-  known = λ some. absurd (some refl);
-}
+pub told_none : (a : Axes) (labels : List ℕ) (from faces : ℕ) (es : List Region)
+    → GainsNames a labels (in_run from from) faces es es
+told_none a labels from faces es = names-nothing a labels (in_run from from) faces es (none_of from)
 
 more_tests : (a : Axes) (labels : List ℕ) (from v faces : ℕ) (es fs : List Region) → from ≤ v
     → GainsNames a labels (λ w. in_run from v w || eqb w v) faces es fs → GainsNames a labels (in_run from (v + 1)) faces es fs
 more_tests a labels from v faces es fs low gained =
     names-test a labels (λ w. in_run from v w || eqb w v) (in_run from (v + 1)) faces es fs (λ w. run_of from v w low) gained
 
--- the next voxel has another name than the one before, which was added
-pub told_name : (a : Axes) (labels : List ℕ) (from v faces : ℕ) (es fs gs : List Region) (last name next : ℕ)
-    → from ≤ v → v < voxel_count a → IsToldTo a labels from v faces es fs last
-    → name ≡ label_of labels v → name ≢ 0 → gs ≡ fs ++ record { name = name; faces = faces } ∷ [] → next ≡ name
-    → IsToldTo a labels from (v + 1) faces es gs next
-told_name a labels from v faces es fs gs last name next low below so_far name_is some gs_is next_is =
+-- a list with the same names and faces as one that gained names
+names-alike : (a : Axes) (labels : List ℕ) (test : ℕ → Bool) (faces : ℕ) (es fs gs : List Region)
+    → GainsNames a labels test faces es fs → SameRegions fs gs → (AreNamed es → AreNamed gs)
+    → GainsNames a labels test faces es gs
+names-alike a labels test faces es fs gs gained same named = record {
+  named = named;
+  names = λ x name. same.names x ∙ gained.names x name;
+  with_faces = λ x name. same.faces x ∙ gained.with_faces x name;
+}
+
+-- the name of the next voxel was added
+pub told_name : (a : Axes) (labels : List ℕ) (from v faces : ℕ) (es fs gs : List Region) (name : ℕ)
+    → from ≤ v → v < voxel_count a → GainsNames a labels (in_run from v) faces es fs
+    → name ≡ label_of labels v → name ≢ 0 → SameRegions (fs ++ record { name = name; faces = faces } ∷ []) gs
+    → (AreNamed fs → name ≢ 0 → AreNamed gs) → GainsNames a labels (in_run from (v + 1)) faces es gs
+told_name a labels from v faces es fs gs name low below so_far name_is some same named =
     let here : label_of labels v ≢ 0 = λ none. some (name_is ∙ none) in
     let with_name : ℕ → List Region = λ n. fs ++ record { name = n; faces = faces } ∷ [] in
-    record {
-      gains = more_tests a labels from v faces es gs low
-          (subst (GainsNames a labels (λ w. in_run from v w || eqb w v) faces es) (sym (gs_is ∙ ap with_name name_is))
-          (names-both a labels (in_run from v) (λ w. eqb w v) faces es fs (with_name (label_of labels v)) so_far.gains
-          (names-voxel a labels v faces fs below here)));
-      known = λ _. among_from a labels (in_run from (v + 1)) next v below (last_of from v low) (sym (next_is ∙ name_is));
-    }
+    names-alike a labels (in_run from (v + 1)) faces es (with_name (label_of labels v)) gs
+    (more_tests a labels from v faces es (with_name (label_of labels v)) low
+    (names-both a labels (in_run from v) (λ w. eqb w v) faces es fs (with_name (label_of labels v)) so_far
+    (names-voxel a labels v faces fs below here)))
+    (subst (λ n. SameRegions (with_name n) gs) name_is same) (λ names. named (so_far.named names) some)
 
-known_or : (b c : Bool) (x name : ℕ) → eqb name x ≡ c → (name ≡ x → b ≡ true) → b ≡ (b || c)
-known_or true c x name is known = refl
-known_or false true x name is known = known (eqb-true name x is)
-known_or false false x name is known = refl
+other_name : (b : Bool) (c : Bool) → c ≡ false → b ≡ (b || c)
+other_name true c other = refl
+other_name false true other = sym other
+other_name false false other = refl
 
--- the next voxel is background, or has the name of the one before
-pub told_again : (a : Axes) (labels : List ℕ) (from v faces : ℕ) (es fs gs : List Region) (last next : ℕ)
-    → from ≤ v → v < voxel_count a → IsToldTo a labels from v faces es fs last
-    → label_of labels v ≡ 0 ⊎ label_of labels v ≡ last → gs ≡ fs → next ≡ label_of labels v
-    → IsToldTo a labels from (v + 1) faces es gs next
-told_again a labels from v faces es fs gs last next low below so_far again gs_is next_is = record {
-  gains = more_tests a labels from v faces es gs low
-      (subst (GainsNames a labels (λ w. in_run from v w || eqb w v) faces es) (sym gs_is)
-      (names-same a labels (in_run from v) (λ w. in_run from v w || eqb w v) faces es fs (λ x name.
-      known_or (name_among a labels (in_run from v) x) (eqb (label_of labels v) x) x (label_of labels v) refl
-      (λ is. told x is name again)
-      ∙ ap (λ b. name_among a labels (in_run from v) x || b) (sym (among-one a labels v x below))
-      ∙ sym (among-either a labels (in_run from v) (λ w. eqb w v) x)) so_far.gains));
-  known = λ _. among_from a labels (in_run from (v + 1)) next v below (last_of from v low) (sym next_is);
-}
-  where
-    told : (x : ℕ) → label_of labels v ≡ x → x ≢ 0 → label_of labels v ≡ 0 ⊎ label_of labels v ≡ last
-        → name_among a labels (in_run from v) x ≡ true
-    told x is name (inl none) = absurd (name (sym is ∙ none))
-    told x is name (inr same) =
-        let at_last : last ≡ x = sym same ∙ is in
-        subst (λ y. name_among a labels (in_run from v) y ≡ true) at_last (so_far.known (λ none. name (sym at_last ∙ none)))
+-- the next voxel is background
+pub told_background : (a : Axes) (labels : List ℕ) (from v faces : ℕ) (es fs gs : List Region)
+    → from ≤ v → v < voxel_count a → GainsNames a labels (in_run from v) faces es fs
+    → label_of labels v ≡ 0 → gs ≡ fs → GainsNames a labels (in_run from (v + 1)) faces es gs
+told_background a labels from v faces es fs gs low below so_far none gs_is =
+    more_tests a labels from v faces es gs low
+    (subst (GainsNames a labels (λ w. in_run from v w || eqb w v) faces es) (sym gs_is)
+    (names-same a labels (in_run from v) (λ w. in_run from v w || eqb w v) faces es fs (λ x name.
+    other_name (name_among a labels (in_run from v) x) (eqb (label_of labels v) x)
+    (false_from_ne_true (eqb (label_of labels v) x) (λ pass. name (sym (eqb-true (label_of labels v) x pass) ∙ none)))
+    ∙ ap (λ b. name_among a labels (in_run from v) x || b) (sym (among-one a labels v x below))
+    ∙ sym (among-either a labels (in_run from v) (λ w. eqb w v) x)) so_far))

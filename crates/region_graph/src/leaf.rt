@@ -8,9 +8,10 @@ ghost use Rattle.region_graph.specs.Boxes.{GainsFaces, GainsNames, IsBox, IsSome
 ghost use Rattle.region_graph.specs.Lists.{AreNamed, AreOrdered, count_of, faces_in, has_name};
 ghost use Rattle.region_graph.specs.SiteView.{IsSite};
 
-use crate::contacts::add_contacts;
+use crate::contacts::gather;
 use crate::graph::{Edge, Graph, Region};
 use crate::names::add_names;
+use crate::recent::Recent;
 use crate::site::Site;
 use crate::sums::{join_regions, sum_contacts};
 use agglo_model::Memory;
@@ -38,8 +39,15 @@ fn contacts_inside(alloc: Global, site: &Site, m: u32) -> Result<Vec<Edge>, Memo
 {
     let cell = site.cutting().cell(m);
     let mut edges = Vec::new(alloc);
+    let mut recent = Recent::new();
     for axis in 0..3 {
-        add_contacts(&mut edges, site, axis, &above_lowest(&cell, axis))?;
+        gather(
+            &mut edges,
+            &mut recent,
+            site,
+            axis,
+            &above_lowest(&cell, axis),
+        )?;
     }
     Ok(edges)
 }
@@ -55,15 +63,22 @@ fn names_inside(alloc: Global, site: &Site, m: u32) -> Result<Vec<Region>, Memor
 {
     let cell = site.cutting().cell(m);
     let mut regions = Vec::new(alloc);
-    add_names(&mut regions, site.labels(), &cell, 0)?;
+    let mut recent = Recent::new();
+    add_names(&mut regions, &mut recent, site.labels(), &cell, 0)?;
     for axis in 0..3 {
-        add_faces(&mut regions, site, &cell, axis)?;
+        add_faces(&mut regions, &mut recent, site, &cell, axis)?;
     }
     Ok(regions)
 }
 
 /// Adds the names at the artificial faces of a cell on an axis.
-fn add_faces(regions: &mut Vec<Region>, site: &Site, cell: &Cell, axis: u32) -> Result<(), Memory>
+fn add_faces(
+    regions: &mut Vec<Region>,
+    recent: &mut Recent,
+    site: &Site,
+    cell: &Cell,
+    axis: u32,
+) -> Result<(), Memory>
     requires axis { axis < 3 }
     requires cell_fits { IsSomeBox site.now.grid.axes cell.now.lo cell.now.hi }
     ensures { IfOk result (λ _. GainsFaces site.now.grid.axes site.now.labels cell.now.lo cell.now.hi axis
@@ -72,15 +87,23 @@ fn add_faces(regions: &mut Vec<Region>, site: &Site, cell: &Cell, axis: u32) -> 
     let labels = site.labels();
     let bit = 4u8.pow(axis);
     let has_low = cell.lo[axis as usize] > 0;
-    add_layer(regions, labels, has_low, &lowest(cell, axis), bit)?;
+    add_layer(regions, recent, labels, has_low, &lowest(cell, axis), bit)?;
     let has_high = cell.hi[axis as usize] < axis_length(labels.dims(), axis);
-    add_layer(regions, labels, has_high, &highest(cell, axis), 2 * bit)?;
+    add_layer(
+        regions,
+        recent,
+        labels,
+        has_high,
+        &highest(cell, axis),
+        2 * bit,
+    )?;
     Ok(())
 }
 
 /// Adds the names of a layer with the bit of its face, where that is artificial.
 fn add_layer(
     regions: &mut Vec<Region>,
+    recent: &mut Recent,
     labels: &Labels,
     is_artificial: bool,
     layer: &Cell,
@@ -91,7 +114,7 @@ fn add_layer(
         (λ v. is_artificial && in_box labels.now.axes layer.now.lo layer.now.hi v) face regions.old.items regions.new.items) }
 {
     if is_artificial {
-        add_names(regions, labels, layer, face)?;
+        add_names(regions, recent, labels, layer, face)?;
     }
     Ok(())
 }

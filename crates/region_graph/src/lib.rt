@@ -10,6 +10,7 @@ mod contacts;
 mod graph;
 mod leaf;
 mod names;
+mod recent;
 mod site;
 mod sums;
 #[cfg(test)]

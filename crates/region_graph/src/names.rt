@@ -3,12 +3,16 @@ ghost use Rattle.agglo_model.specs.Axes.{voxel_count};
 ghost use Rattle.region_graph.specs.Boxes.{GainsNames, IsBox, in_box, in_run};
 
 use crate::graph::Region;
+use crate::recent::Recent;
+use crate::sums::add_region_at;
 use agglo_model::Memory;
 use seg_base::{Cell, Labels};
 
-/// Adds the names that occur in a box, each with these faces. A name may be added many times.
+/// Adds the names that occur in a box, each with these faces. A name may be added many times, but for those at
+/// places where it was added a short time ago.
 pub(crate) fn add_names(
     regions: &mut Vec<Region>,
+    recent: &mut Recent,
     labels: &Labels,
     cell: &Cell,
     faces: u8,
@@ -23,7 +27,7 @@ pub(crate) fn add_names(
     for z in low_z..high_z {
         for y in low_y..high_y {
             let row = dims.voxel(0, y, z);
-            add_row(regions, labels, row + low_x, row + high_x, faces)?;
+            add_row(regions, recent, labels, row + low_x, row + high_x, faces)?;
         }
     }
     Ok(())
@@ -32,6 +36,7 @@ pub(crate) fn add_names(
 /// The same for the voxels from `from` up to, but not including, `to`.
 fn add_row(
     regions: &mut Vec<Region>,
+    recent: &mut Recent,
     labels: &Labels,
     from: u32,
     to: u32,
@@ -43,14 +48,12 @@ fn add_row(
         (in_run from to) faces regions.old.items regions.new.items) }
 {
     let labels = labels.list();
-    let mut last = 0;
     for v in from..to {
         let name = labels[v as usize];
-        if name != last {
-            last = name;
-            if name != 0 {
-                regions.push(Region { name, faces })?;
-            }
+        if name != 0 {
+            let number = u64::from(name);
+            let place = add_region_at(regions, recent.place(number), Region { name, faces })?;
+            recent.keep(number, place);
         }
     }
     Ok(())

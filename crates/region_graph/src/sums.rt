@@ -1,4 +1,4 @@
-ghost use Rattle.std.specs.Prelude.{◌≡◌, ◌<◌, ◌≤◌, ◌+◌, ◌++◌, ◌∷◌, [], AllPairs, IfOk};
+ghost use Rattle.std.specs.Prelude.{◌≡◌, ◌≢◌, ◌<◌, ◌≤◌, ◌+◌, ◌++◌, ◌∷◌, [], AllPairs, IfOk};
 ghost use Rattle.agglo_model.specs.PairOrder.{most_edges};
 ghost use Rattle.agglo_model.specs.RegionGraph.{StandsBefore};
 ghost use Rattle.region_graph.specs.Lists.{AreNamed, AreOrdered, AreTouching, Gains, IsFit, SameContacts, SameRegions, count_of, order_of, with_contact, with_faces_of};
@@ -44,6 +44,25 @@ pub(crate) fn add_edge(edges: &mut Vec<Edge>, edge: Edge) -> Result<(), Memory>
     Ok(())
 }
 
+/// Adds an edge to the one at a place of the list, where that is between the same two names, and else
+/// appends it. Answers the place where it is then.
+pub(crate) fn add_edge_at(edges: &mut Vec<Edge>, place: usize, edge: Edge) -> Result<usize, Memory>
+    requires { count_of edges.old.items + edge.contact.count ≤ most_edges }
+    ensures ordered { IfOk result (λ _. AreOrdered edges.old.items → edge.a < edge.b → AreOrdered edges.new.items) }
+    ensures contacts { IfOk result (λ _. SameContacts (edges.old.items ++ edge ∷ []) edges.new.items) }
+    ensures count { IfOk result (λ _. count_of edges.new.items ≡ count_of edges.old.items + edge.contact.count) }
+{
+    let order = edge.order();
+    let end = edges.len();
+    if place < end && edges[place].order() == order {
+        let there = &mut edges[place];
+        there.contact = there.contact.add(edge.contact);
+        return Ok(place);
+    }
+    edges.push(edge)?;
+    Ok(end)
+}
+
 /// Sorts regions by name, and puts together the faces of those of one name.
 pub fn join_regions(alloc: Global, mut regions: Vec<Region>) -> Result<Vec<Region>, Memory>
     requires { AreNamed regions.items }
@@ -71,4 +90,23 @@ pub(crate) fn add_region(regions: &mut Vec<Region>, region: Region) -> Result<()
     }
     regions.push(region)?;
     Ok(())
+}
+
+/// Gives the faces of a region to the one at a place of the list, where that has its name, and else appends
+/// it. Answers the place where it is then.
+pub(crate) fn add_region_at(
+    regions: &mut Vec<Region>,
+    place: usize,
+    region: Region,
+) -> Result<usize, Memory>
+    ensures named { IfOk result (λ _. AreNamed regions.old.items → region.name ≢ 0 → AreNamed regions.new.items) }
+    ensures same { IfOk result (λ _. SameRegions (regions.old.items ++ region ∷ []) regions.new.items) }
+{
+    let end = regions.len();
+    if place < end && regions[place].name == region.name {
+        regions[place].faces |= region.faces;
+        return Ok(place);
+    }
+    regions.push(region)?;
+    Ok(end)
 }

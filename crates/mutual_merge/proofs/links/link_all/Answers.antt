@@ -4,14 +4,14 @@ use Rattle.agglo_model.specs.RegionGraph.{GraphEdge, HasRegion}
 use Rattle.mutual_merge.proofs.LinkedEdges.{AreLinked-from_edges}
 use Rattle.mutual_merge.proofs.links.link_all.Goals as goal
 
-pub place_of-requires-clause-there : goal.place_of-requires-clause-there
-place_of-requires-clause-there c =
+pub place_by-requires-clause-there : goal.place_by-requires-clause-there
+place_by-requires-clause-there c =
     let e : GraphEdge = c.edge-item.result in
     subst (HasRegion (record { regions = c.args.regions.now; edges = [] })) (ap (λ f. f.a) (sym c.edge.view_is))
     (c.requires.graph.from_region e (c.loop-edge.edge-index, c.loop-edge-test.true, sym c.edge-item.is))
 
-pub place_of-requires-in-loop-edge-clause-there : goal.place_of-requires-in-loop-edge-clause-there
-place_of-requires-in-loop-edge-clause-there c =
+pub place_by-requires-in-loop-edge-clause-there : goal.place_by-requires-in-loop-edge-clause-there
+place_by-requires-in-loop-edge-clause-there c =
     let e : GraphEdge = c.edge-item.result in
     subst (HasRegion (record { regions = c.args.regions.now; edges = [] })) (ap (λ f. f.b) (sym c.edge.view_is))
     (c.requires.graph.to_region e (c.loop-edge.edge-index, c.loop-edge-test.true, sym c.edge-item.is))

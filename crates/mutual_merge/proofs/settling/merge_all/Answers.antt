@@ -3,21 +3,33 @@ use Rattle.std.proofs.lemmas.Bool.Decides.{nat_tests}
 use Rattle.agglo_model.specs.PairOrder.{Threshold}
 use Rattle.agglo_model.specs.RegionGraph.{Region}
 use Rattle.agglo_model.specs.Greedy.{Merge}
-use Rattle.agglo_model.proofs.GraphRounds.{Leads, Leads-append, settled_by}
 use Rattle.mutual_merge.specs.declared.links.Link.{Link}
 use Rattle.mutual_merge.specs.Linked.{AreLinked, graph_of}
 use Rattle.mutual_merge.specs.Pairs.{IsPairing, merge_of}
 use Rattle.mutual_merge.specs.Merged.{AreMerged}
-use Rattle.mutual_merge.proofs.PairRounds.{AreMutual-pairing, pairs_lead, fewer_regions, none_reciprocal}
+use Rattle.mutual_merge.specs.Trimmed.{AreTrimmed}
+use Rattle.mutual_merge.proofs.TrimmedGraphs.{Carries, carries_trimmed, carries_round, carries_end}
+use Rattle.mutual_merge.proofs.PairRounds.{AreMutual-pairing, linked_graph, pairs_lead, fewer_regions, none_reciprocal}
 use Rattle.mutual_merge.proofs.settling.merge_all.Goals as goal
-use Rattle.mutual_merge.proofs.settling.merge_all.Goals.{After-is_empty, In_ok-graph}
+use Rattle.mutual_merge.proofs.settling.merge_all.Goals.{After-is_empty, In_ok-graph-2}
 
-pairing_is : (c : After-is_empty) → IsPairing c.args.threshold.now c.args.frozen c.loop-merges.graph.regions.items c.loop-merges.graph.links.items
+-- the merges so far make the graph without the regions that were let go
+trimmed_carries : (c : After-is_empty) → Carries c.args.threshold.now c.args.frozen
+    (graph_of c.args.start.regions.items c.args.start.links.items) c.loop-merges.merges.items
+    (graph_of c.in_ok-graph.graph.regions.items c.in_ok-graph.graph.links.items)
+trimmed_carries c =
+    carries_trimmed c.args.threshold.now c.args.frozen (graph_of c.args.start.regions.items c.args.start.links.items)
+    (graph_of c.loop-merges.graph.regions.items c.loop-merges.graph.links.items)
+    (graph_of c.in_ok-graph.graph.regions.items c.in_ok-graph.graph.links.items) c.loop-merges.merges.items
+    (linked_graph c.loop-merges.graph.regions.items c.loop-merges.graph.links.items c.loop-merges.invariant.linked)
+    c.in_ok-graph.ensures.left_is c.loop-merges.invariant.carries
+
+pairing_is : (c : After-is_empty) → IsPairing c.args.threshold.now c.args.frozen c.in_ok-graph.graph.regions.items c.in_ok-graph.graph.links.items
     c.in_ok-pairing.pairing.mates.items c.in_ok-pairing.pairing.pairs.items
 pairing_is c =
     let mates : List ℕ = c.in_ok-pairing.pairing.mates.items in
     let pairs : List Link = c.in_ok-pairing.pairing.pairs.items in
-    subst (λ rs. IsPairing c.args.threshold.now c.args.frozen rs c.loop-merges.graph.links.items mates pairs) c.deref.ensures.value
+    subst (λ rs. IsPairing c.args.threshold.now c.args.frozen rs c.in_ok-graph.graph.links.items mates pairs) c.deref.ensures.value
     (subst (λ ls. IsPairing c.args.threshold.now c.args.frozen c.deref.result.now ls mates pairs) c.deref-in-loop-merges.ensures.value
     c.in_ok-pairing.ensures)
 
@@ -32,56 +44,61 @@ returns-then-is_empty c =
     let pairing = pairing_is (goal.at.returns-then-is_empty c).After-is_empty in
     let pairs = c.in_ok-pairing.pairing.pairs in
     let none : length pairs.items ≡ 0 = sym pairs.ok.0 ∙ is_zero pairs.len c.if-is_empty.ensures in
-    let regions : List Region = c.loop-merges.graph.regions.items in
-    let links : List Link = c.loop-merges.graph.links.items in
+    let regions : List Region = c.in_ok-graph.graph.regions.items in
+    let links : List Link = c.in_ok-graph.graph.links.items in
+    let none_left = none_reciprocal c.args.threshold.now c.args.frozen regions links c.in_ok-pairing.pairing.mates.items pairs.items
+    c.in_ok-graph.ensures.linked pairing none in
     record {
-      linked = c.loop-merges.invariant.linked;
-      settled = settled_by c.args.threshold.now c.args.frozen (graph_of c.args.start.regions.items c.args.start.links.items)
-          (graph_of regions links) c.loop-merges.merges.items c.loop-merges.invariant.leads
-          (none_reciprocal c.args.threshold.now c.args.frozen regions links c.in_ok-pairing.pairing.mates.items pairs.items
-          c.loop-merges.invariant.linked pairing none);
+      linked = c.in_ok-graph.ensures.linked;
+      settles = λ left is_left.
+          carries_end c.args.threshold.now c.args.frozen (graph_of c.args.start.regions.items c.args.start.links.items)
+          (graph_of regions links) left c.loop-merges.merges.items (trimmed_carries (goal.at.returns-then-is_empty c).After-is_empty)
+          none_left is_left;
     }
 
-merged_is : (c : In_ok-graph) → AreMerged c.loop-merges.graph.regions.items c.loop-merges.graph.links.items
-    c.in_ok-pairing.pairing.mates.items c.in_ok-graph.graph.regions.items c.in_ok-graph.graph.links.items
+merged_is : (c : In_ok-graph-2) → AreMerged c.in_ok-graph.graph.regions.items c.in_ok-graph.graph.links.items
+    c.in_ok-pairing.pairing.mates.items c.in_ok-graph-2.graph.regions.items c.in_ok-graph-2.graph.links.items
 merged_is c =
-    let kept : List Region = c.in_ok-graph.graph.regions.items in
-    let joined : List Link = c.in_ok-graph.graph.links.items in
-    subst (λ rs. AreMerged rs c.loop-merges.graph.links.items c.in_ok-pairing.pairing.mates.items kept joined) c.deref-in-loop-merges-4.ensures.value
+    let kept : List Region = c.in_ok-graph-2.graph.regions.items in
+    let joined : List Link = c.in_ok-graph-2.graph.links.items in
+    subst (λ rs. AreMerged rs c.in_ok-graph.graph.links.items c.in_ok-pairing.pairing.mates.items kept joined) c.deref-in-loop-merges-4.ensures.value
     (subst (λ ls. AreMerged c.deref-in-loop-merges-4.result.now ls c.in_ok-pairing.pairing.mates.items kept joined) c.deref-in-loop-merges-5.ensures.value
     (subst (λ ms. AreMerged c.deref-in-loop-merges-4.result.now c.deref-in-loop-merges-5.result.now ms kept joined) c.deref-in-loop-merges-6.ensures.value
-    c.in_ok-graph.ensures))
+    c.in_ok-graph-2.ensures))
 
 pub loop-merges-smaller : goal.loop-merges-smaller
 loop-merges-smaller c =
     let pairing = pairing_is (goal.at.loop-merges-smaller c).After-is_empty in
-    let merged = merged_is (goal.at.loop-merges-smaller c).In_ok-graph in
+    let merged = merged_is (goal.at.loop-merges-smaller c).In_ok-graph-2 in
     let pairs = c.in_ok-pairing.pairing.pairs in
     let some : 0 < length pairs.items = subst (λ n. 0 < n) pairs.ok.0 (is_some pairs.len c.if-is_empty.ensures) in
-    fewer_regions c.args.threshold.now c.args.frozen c.loop-merges.graph.regions.items c.loop-merges.graph.links.items
-    c.in_ok-pairing.pairing.mates.items pairs.items c.in_ok-graph.graph.regions.items c.in_ok-graph.graph.links.items
-    c.loop-merges.invariant.linked pairing merged some
+    let few = c.in_ok-graph.ensures.few in
+    let fewer = fewer_regions c.args.threshold.now c.args.frozen c.in_ok-graph.graph.regions.items c.in_ok-graph.graph.links.items
+    c.in_ok-pairing.pairing.mates.items pairs.items c.in_ok-graph-2.graph.regions.items c.in_ok-graph-2.graph.links.items
+    c.in_ok-graph.ensures.linked pairing merged some in
+    omega (arith, few, fewer)
 
 pub loop-merges-preserved : goal.loop-merges-preserved
 loop-merges-preserved c =
     let pairing = pairing_is (goal.at.loop-merges-preserved c).After-is_empty in
-    let merged = merged_is (goal.at.loop-merges-preserved c).In_ok-graph in
+    let merged = merged_is (goal.at.loop-merges-preserved c).In_ok-graph-2 in
     let pairs = c.in_ok-pairing.pairing.pairs in
     let some : 0 < length pairs.items = subst (λ n. 0 < n) pairs.ok.0 (is_some pairs.len c.if-is_empty.ensures) in
     let t : Threshold = c.args.threshold.now in
-    let regions : List Region = c.loop-merges.graph.regions.items in
-    let links : List Link = c.loop-merges.graph.links.items in
-    let kept : List Region = c.in_ok-graph.graph.regions.items in
-    let joined : List Link = c.in_ok-graph.graph.links.items in
+    let regions : List Region = c.in_ok-graph.graph.regions.items in
+    let links : List Link = c.in_ok-graph.graph.links.items in
+    let kept : List Region = c.in_ok-graph-2.graph.regions.items in
+    let joined : List Link = c.in_ok-graph-2.graph.links.items in
     let start = graph_of c.args.start.regions.items c.args.start.links.items in
     let noted : c.note_merges.new.merges.items ≡ c.loop-merges.merges.items ++ map (merge_of regions) pairs.items =
     c.in_ok-note_merges.ensures
     ∙ (λ i. c.loop-merges.merges.items ++ map (merge_of (c.deref-in-loop-merges-2.ensures.value i)) (c.deref-in-loop-merges-3.ensures.value i)) in
     record {
       linked = merged.linked;
-      leads = subst (λ ms. Leads t c.args.frozen start ms (graph_of kept joined)) (sym noted)
-          (Leads-append t c.args.frozen start (graph_of regions links) (graph_of kept joined) c.loop-merges.merges.items
-          (map (merge_of regions) pairs.items) c.loop-merges.invariant.leads
+      carries = subst (λ ms. Carries t c.args.frozen start ms (graph_of kept joined)) (sym noted)
+          (carries_round t c.args.frozen start (graph_of regions links) (graph_of kept joined) c.loop-merges.merges.items
+          (map (merge_of regions) pairs.items)
           (pairs_lead t c.args.frozen regions links c.in_ok-pairing.pairing.mates.items pairs.items kept joined
-          c.loop-merges.invariant.linked pairing merged some));
+          c.in_ok-graph.ensures.linked pairing merged some)
+          (trimmed_carries (goal.at.loop-merges-preserved c).After-is_empty));
     }

@@ -1,12 +1,12 @@
 use Rattle.std.proofs.Common.{length}
-use Rattle.agglo_model.proofs.GraphRounds.{Leads}
 use Rattle.mutual_merge.specs.Linked.{AreLinked, graph_of}
+use Rattle.mutual_merge.proofs.TrimmedGraphs.{Carries}
 use Rattle.mutual_merge.proofs.settling.merge_all.Given as goal
 
 abbrev pub invariant-loop-merges : goal.invariant-loop-merges
 invariant-loop-merges l = record {
   linked : AreLinked l.graph.regions.items l.graph.links.items;
-  leads : Leads l.threshold l.frozen (graph_of l.fn.start.regions.items l.fn.start.links.items) l.merges.items
+  carries : Carries l.threshold l.frozen (graph_of l.fn.start.regions.items l.fn.start.links.items) l.merges.items
       (graph_of l.graph.regions.items l.graph.links.items);
 }
 

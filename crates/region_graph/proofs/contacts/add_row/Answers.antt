@@ -3,10 +3,10 @@ use Rattle.agglo_model.specs.Axes.{coordinate, stride}
 use Rattle.agglo_model.specs.Basins.{label_of}
 use Rattle.agglo_model.specs.Grid.{affinity}
 use Rattle.agglo_model.proofs.Places.{stride_le}
-use Rattle.region_graph.specs.Lists.{Gains, SameContacts, count_of, order_of, with_contact}
+use Rattle.region_graph.specs.Lists.{AreOrdered, SameContacts, count_of}
 use Rattle.region_graph.proofs.ContactRows.{HasEdgeOn, summed_none, summed_edge, summed_alike}
 use Rattle.region_graph.proofs.contacts.add_row.Goals as goal
-use Rattle.region_graph.proofs.contacts.add_row.Goals.{then-higher-lower+then-higher-ne0+then-lower-ne0+in_ok-add_edge, else-higher-lower, else-higher-lower-via-then-higher-lower+then-higher-ne0+else-lower-ne0, else-higher-lower-via-then-higher-lower+else-higher-ne0, else-higher-lower-via-else-higher-lower}
+use Rattle.region_graph.proofs.contacts.add_row.Goals.{then-higher-lower+then-higher-ne0+then-lower-ne0+in_ok-place, else-higher-lower, else-higher-lower-via-then-higher-lower+then-higher-ne0+else-lower-ne0, else-higher-lower-via-then-higher-lower+else-higher-ne0, else-higher-lower-via-else-higher-lower}
 
 pub loop-v-init : goal.loop-v-init
 loop-v-init c = summed_none c.args.site.now.grid c.args.site.now.labels c.args.axis c.args.from c.args.edges.now.items
@@ -44,14 +44,14 @@ loop-v-preserved c =
     let before = c.args.edges.now.items in
     let now = c.loop-v.edges.items in
     elim c.if-higher-lower.branch [
-      | then-higher-lower+then-higher-ne0+then-lower-ne0+in_ok-add_edge w ↦
+      | then-higher-lower+then-higher-ne0+then-lower-ne0+in_ok-place w ↦
           let after = sym (ap (λ es. es.items) w.edges-is) in
           summed_edge g labels axis from v before now c.if-higher-lower.edges.items lower higher has c.loop-v.auto.v c.loop-v.invariant
-          lower_is higher_is w.if-higher-lower.true w.if-higher-ne0.true w.if-lower-ne0.true w.one.result
-          (w.one.ensures ∙ ap (λ byte. record { a = min lower higher; b = max lower higher; contact = record { sum = byte; count = 1; tie = 3 * v + axis } }) byte_is)
-          (subst (Gains order_of with_contact w.one.result now) after w.in_ok-add_edge.ensures.gains)
-          (subst (SameContacts (now ++ w.one.result ∷ [])) after w.in_ok-add_edge.ensures.contacts)
-          (ap count_of (sym after) ∙ w.in_ok-add_edge.ensures.count)
+          lower_is higher_is w.if-higher-lower.true w.if-higher-ne0.true w.if-lower-ne0.true w.one-edge.result
+          (w.one-edge.ensures ∙ ap (λ byte. record { a = min lower higher; b = max lower higher; contact = record { sum = byte; count = 1; tie = 3 * v + axis } }) byte_is)
+          (subst (λ es. AreOrdered now → w.one-edge.result.a < w.one-edge.result.b → AreOrdered es) after w.in_ok-place.ensures.ordered)
+          (subst (SameContacts (now ++ w.one-edge.result ∷ [])) after w.in_ok-place.ensures.contacts)
+          (ap count_of (sym after) ∙ w.in_ok-place.ensures.count)
       | else-higher-lower w ↦
           summed_alike g labels axis from v before now c.if-higher-lower.edges.items lower higher has c.loop-v.auto.v c.loop-v.invariant
           lower_is higher_is

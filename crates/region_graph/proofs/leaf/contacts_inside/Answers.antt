@@ -21,8 +21,8 @@ above_lowest-requires-clause-fits c =
     let box = corners_box s.cutting s.grid.axes c.args.m cell.lo cell.hi site.chunking site.same_axes c.requires corners in
     low_fits s.grid.axes cell.lo cell.hi c.loop-axis.axis site.whole.limits box c.loop-axis-test.true
 
-pub add_contacts-requires-clause-cell_fits : goal.add_contacts-requires-clause-cell_fits
-add_contacts-requires-clause-cell_fits c =
+pub gather-requires-clause-cell_fits : goal.gather-requires-clause-cell_fits
+gather-requires-clause-cell_fits c =
     let s = c.args.site.now in
     let site = c.cutting.ensures.site in
     let cell = c.cell-cell.result in
@@ -39,9 +39,9 @@ loop-axis-preserved c =
     let labels = c.args.site.now.labels in
     let cell = c.cell-cell.result in
     let axis = c.loop-axis.axis in
-    axes-more g labels cell.lo cell.hi axis c.loop-axis.edges.items c.add_contacts.new.edges.items c.loop-axis.invariant
-    (subst (λ z. GainsContacts g labels (ends_among axis (in_box g.axes z.lo z.hi)) c.loop-axis.edges.items c.add_contacts.new.edges.items)
-    c.above_lowest.ensures c.in_ok-add_contacts.ensures.gains) c.in_ok-add_contacts.ensures.count
+    axes-more g labels cell.lo cell.hi axis c.loop-axis.edges.items c.gather.new.edges.items c.loop-axis.invariant
+    (subst (λ z. GainsContacts g labels (ends_among axis (in_box g.axes z.lo z.hi)) c.loop-axis.edges.items c.gather.new.edges.items)
+    c.above_lowest.ensures c.in_ok-gather.ensures.gains) c.in_ok-gather.ensures.count
 
 pub returns-clause-contacts : goal.returns-clause-contacts
 returns-clause-contacts c =

@@ -1,5 +1,5 @@
 use Rattle.region_graph.proofs.BoxRows.{AreRowsSummed}
-use Rattle.region_graph.proofs.contacts.add_contacts.Given as goal
+use Rattle.region_graph.proofs.contacts.gather.Given as goal
 
 abbrev pub invariant-loop-z : goal.invariant-loop-z
 invariant-loop-z l =

@@ -3,7 +3,7 @@ use Rattle.agglo_model.specs.Axes.{voxel_at}
 use Rattle.region_graph.specs.Boxes.{GainsContacts, ends_among, in_run}
 use Rattle.region_graph.specs.Lists.{count_of}
 use Rattle.region_graph.proofs.BoxRows.{AreRowsSummed, IsRow, row_inner, rows-none, rows-first, rows-more, rows-layer, rows-gained, rows-count}
-use Rattle.region_graph.proofs.contacts.add_contacts.Goals as goal
+use Rattle.region_graph.proofs.contacts.gather.Goals as goal
 
 pub loop-z-init : goal.loop-z-init
 loop-z-init c =
