@@ -12,7 +12,7 @@ use Rattle.agglo_cli.specs.Answers.{Finds}
 use Rattle.agglo_cli.specs.Flaws.{RefusesInput, RefusesNumbers, RefusesStart, IsJudged, HasInput, ComesFirst}
 use Rattle.agglo_cli.specs.Headline.{IsAgglomerated, IsMade, IsTried}
 use Rattle.agglo_cli.specs.Reading.{OnlyInputChanges, HasFile}
-use Rattle.agglo_cli.specs.Run.{FinishesTask, StopsTask, RefusesRun, Told, Finishes, NamesAFlawedInput, NamesAGoodInput, WritesNothing}
+use Rattle.agglo_cli.specs.Run.{FinishesTask, RefusesTask, StopsTask, RefusesRun, Told, Finishes, NamesAFlawedInput, NamesAGoodInput, WritesNothing}
 use Rattle.agglo_cli.specs.Writing.{Answer}
 use Rattle.agglo_cli.proofs.Judged.{TellsFlaw, finds_sound, one_cause, memory_first, fault_first}
 use Rattle.agglo_cli.proofs.Segmented.{agglomerated, made, tried}
@@ -117,6 +117,26 @@ pub done_not_flawed : (words : List (List ℕ)) (s t : DeskState) (P : Type 0) �
     → NamesAFlawedInput words status s → P
 done_not_flawed words s t P one f status n =
     not_flawed words f.task f.finished.answer status s f.finished.mid P one f.spelled f.finished.found n
+
+-- ---- the run of settings ends for a cause
+
+-- a task that started has words
+no_words : (task : Task) (s t : DeskState) → RefusesStart task Words s t → ⊥
+no_words (Basins settings) s t f = f
+no_words (Segment settings) s t f = f
+no_words (Make settings) s t f = f
+no_words (Trial settings) s t f = f
+no_words (Show tree) s t f = f
+
+pub settings_refused : (words : List (List ℕ)) (task : Task) (refusal : Refusal) (s t : DeskState) → Spells words task
+    → RefusesTask task refusal s t → RefusesRun words refusal s t
+settings_refused words task Memory s t spelled f = inr (record { task = task; spelled = spelled; refused = f })
+settings_refused words task Words s t spelled f = absurd (no_words task s t f)
+settings_refused words task (Volume fault) s t spelled f = record { task = task; spelled = spelled; refused = f }
+settings_refused words task (Leaves leaves) s t spelled f = record { task = task; spelled = spelled; refused = f }
+settings_refused words task Input s t spelled f = record { task = task; spelled = spelled; refused = f }
+settings_refused words task Output s t spelled f = record { task = task; spelled = spelled; refused = f }
+settings_refused words task (Tree fault) s t spelled f = record { task = task; spelled = spelled; refused = f }
 
 -- ---- the run ended for a cause: status 2 comes where the words are none
 
