@@ -57,9 +57,6 @@ fraction_cut word t f = f.parts ∙ middle 47 f.above f.below
 pub fraction_without : (word : List ℕ) (t : Threshold) → (f : IsFraction word t) → IsWithout 47 f.above
 fraction_without word t f = digits_without 47 f.above not_slash f.numerator.digits
 
-pub no_fraction : (word : List ℕ) → IsWithout 47 word → (t : Threshold) → ¬ (IsFraction word t)
-no_fraction word without t f = no_parts 47 word f.above f.below without (fraction_cut word t f)
-
 -- the parts of a fraction are those at its first slash
 pub fraction_parts : (word above below : List ℕ) (t : Threshold) → word ≡ above ++ 47 ∷ below → IsWithout 47 above
     → (f : IsFraction word t) → (f.above ≡ above) × (f.below ≡ below)
@@ -84,19 +81,11 @@ sizes_first word sizes s = s.parts
     ∙ append_assoc (s.x ++ 44 ∷ []) s.y (44 ∷ s.z)
     ∙ middle 44 s.x (s.y ++ 44 ∷ s.z)
 
-pub no_sizes : (word : List ℕ) → IsWithout 44 word → (sizes : List ℕ) → ¬ (AreSizes word sizes)
-no_sizes word without sizes s = no_parts 44 word s.x (s.y ++ 44 ∷ s.z) without (sizes_first word sizes s)
-
 -- the parts of sizes at the first comma, and those of the rest
 pub sizes_parts : (word x others : List ℕ) (sizes : List ℕ) → word ≡ x ++ 44 ∷ others → IsWithout 44 x
     → (s : AreSizes word sizes) → (s.x ≡ x) × (s.y ++ 44 ∷ s.z ≡ others)
 sizes_parts word x others sizes parts without s = cut_once 44 s.x (s.y ++ 44 ∷ s.z) x others
     (sym (sizes_first word sizes s) ∙ parts) (digits_without 44 s.x not_comma s.x_number.digits) without
-
-pub sizes_one_comma : (word x others : List ℕ) (sizes : List ℕ) → word ≡ x ++ 44 ∷ others → IsWithout 44 x
-    → IsWithout 44 others → ¬ (AreSizes word sizes)
-sizes_one_comma word x others sizes parts without none s = no_parts 44 others s.y s.z none
-    (sym (sizes_parts word x others sizes parts without s).1)
 
 pub record AreParts (x y z : List ℕ) (one other third : List ℕ) : Type 0 where
   pub at_x : one ≡ x

@@ -1,5 +1,5 @@
 -- Words and the job that they spell: what options say in one reading, they say in every other.
-use Rattle.std.proofs.Common.{◌≡◌, ◌≢◌, ℕ, zero, suc, List, [], ◌∷◌, get_or, All, Contains, codes, Option, Some, None, Result, Ok, Err, IsErrAnd, false, true≢false, refl, sym, ◌∙◌, subst, arith}
+use Rattle.std.proofs.Common.{◌≡◌, ◌≢◌, ℕ, zero, suc, List, ◌∷◌, get_or, All, Contains, codes, Option, Some, None, Result, Ok, Err, IsErrAnd, false, true≢false, refl, sym, ◌∙◌, subst, arith}
 use Rattle.std.specs.List.{flat_map}
 use Rattle.std.specs.Str.{bytes_eq}
 use denote.Ref.{Bor}
@@ -105,9 +105,6 @@ head_is x y xs ys e = cc
 
 pub tail_is : (x y : List ℕ) (xs ys : List (List ℕ)) → x ∷ xs ≡ y ∷ ys → xs ≡ ys
 tail_is x y xs ys e = cc
-
-pub no_words_spell : AreNoSettings []
-no_words_spell task s = cc s.words_are
 
 -- a test tells texts apart
 pub apart : (a b : List ℕ) → bytes_eq a b ≡ false → a ≢ b

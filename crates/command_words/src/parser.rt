@@ -71,15 +71,15 @@ fn values_in<'a>(matches: &ArgMatches<'a>) -> Options<'a>
         ≡ first_value (found_of matches.now) (spelled option) }
 {
     let values = [
-        matches.get_str("volume"),
-        matches.get_str("labels"),
-        matches.get_str("tree"),
-        matches.get_str("low"),
-        matches.get_str("merge"),
-        matches.get_str("chunk"),
-        matches.get_str("workers"),
-        matches.get_str("start"),
-        matches.get_str("dims"),
+        matches.get_str(OptionName::Volume.text()),
+        matches.get_str(OptionName::Labels.text()),
+        matches.get_str(OptionName::Tree.text()),
+        matches.get_str(OptionName::Low.text()),
+        matches.get_str(OptionName::Merge.text()),
+        matches.get_str(OptionName::Chunk.text()),
+        matches.get_str(OptionName::Workers.text()),
+        matches.get_str(OptionName::Start.text()),
+        matches.get_str(OptionName::Dims.text()),
     ];
     Options { values }
 }
