@@ -1,11 +1,11 @@
 -- The states of a desk whose input is read as a volume that is to be cut: the header, and then the body.
-use Rattle.std.proofs.Common.{◌≡◌, ◌==◌, ℕ, ◌+◌, ◌^◌, ◌<◌, nat_lt, Bool, true, false, List, drop, slice_index, Option, Some, None, IfSome, refl, sym, ap, subst, ◌∙◌, inl, inr, arith, if◌then◌else◌}
+use Rattle.std.proofs.Common.{◌≡◌, ◌==◌, ℕ, ◌+◌, ◌^◌, ◌<◌, nat_lt, Bool, true, false, List, drop, slice_index, Option, Some, None, IfSome, refl, sym, ap, subst, ◌∙◌, arith, if◌then◌else◌}
 use Rattle.std.specs.Option.{option_map, option_or, option_and_then}
 use Rattle.std.proofs.lemmas.Bool.Decides.{nat_tests}
 use Rattle.agglo_model.specs.Axes.{Axes, edge_count}
 use Rattle.agglo_model.specs.Grid.{Grid}
 use Rattle.agglo_model.specs.Cutting.{Chunking, SizesFlaw, ChunkZero, TooManyLeaves, sizes_flaw, chunking, cells_at}
-use Rattle.agglo_model.specs.VolumeFile.{VolumeFlaw, header_length, header_axes, header_flaw, body, body_flaw, volume_flaw}
+use Rattle.agglo_model.specs.VolumeFile.{VolumeFlaw, header_length, header_axes, header_flaw, body, body_flaw}
 use Rattle.chunk_tree.specs.Flaw.{flaw_of}
 use Rattle.chunk_tree.specs.declared.cutting.CutFault.{CutFault}
 use Rattle.chunk_tree.specs.declared.cutting.CutFault.TheVariants as faults

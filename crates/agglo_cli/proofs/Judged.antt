@@ -1,5 +1,5 @@
 -- What a run found is what its task deserves: found sound, or found to have a flaw.
-use Rattle.std.proofs.Common.{◌≡◌, ℕ, ◌⊎◌, List, Option, Some, None, IfSome, refl, sym, ap, subst, ◌∙◌, inl, inr}
+use Rattle.std.proofs.Common.{◌≡◌, ℕ, List, Option, Some, None, IfSome, refl, sym, ap, subst, ◌∙◌, inl, inr}
 use Rattle.std.specs.Option.{option_or}
 use Rattle.agglo_model.specs.Axes.{Axes}
 use Rattle.agglo_model.specs.Grid.{Grid}

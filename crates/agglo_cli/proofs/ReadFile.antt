@@ -1,17 +1,17 @@
 -- The states of a desk whose input is opened and then read.
-use Rattle.std.proofs.Common.{◌≡◌, ℕ, Bool, true, List, [], drop, Option, Some, None, IsSome, IfSome, MatchOption, refl, sym, ap, subst, ◌∙◌}
+use Rattle.std.proofs.Common.{◌≡◌, ℕ, Bool, true, List, [], drop, Option, Some, None, IsSome, IfSome, MatchOption, sym, ap, subst, ◌∙◌}
 use Rattle.std.specs.Option.{option_map, option_and_then}
 use Rattle.agglo_model.specs.Count.{Rose}
 use Rattle.agglo_model.specs.Grid.{Grid}
-use Rattle.agglo_model.specs.VolumeFile.{VolumeFlaw, volume_flaw, volume_in}
-use Rattle.seg_io.specs.Desk.{DeskState, File, file_named, taken, OpensInput, FailsToOpenInput, FailsAfterReading}
+use Rattle.agglo_model.specs.VolumeFile.{VolumeFlaw, volume_flaw}
+use Rattle.seg_io.specs.Desk.{DeskState, File, file_named, OpensInput, FailsToOpenInput, FailsAfterReading}
 use Rattle.volume_file.specs.declared.fault.VolumeFault.{VolumeFault}
 use Rattle.volume_file.specs.declared.fault.VolumeFault.TheVariants.{ShortHeader, Magic, Channels, Reserved, AxisZero, AxisLarge, TooMany, Truncated, Trailing, Read, Memory}
 use Rattle.volume_file.specs.Fault.{fault_of}
 use Rattle.volume_file.specs.Reading.{ReadsVolume, FindsBadVolume, FailsToReadVolume}
 use Rattle.refusals.specs.declared.refusal.Refusal.TheVariants.{Volume}
 use Rattle.refusals.specs.Refusal.{volume_refusal}
-use Rattle.agglo_cli.specs.Reading.{file_of, OnlyInputChanges, OpensFile, ReadsFile, FailsToReadFile}
+use Rattle.agglo_cli.specs.Reading.{OnlyInputChanges, OpensFile, ReadsFile, FailsToReadFile}
 use Rattle.agglo_cli.specs.Answers.{IsVolumeFile}
 use Rattle.agglo_cli.specs.Flaws.{volume_flaw_refusal, basins_refusal, RefusesInput}
 

@@ -1,13 +1,13 @@
 -- What a segmentation writes: its merges are lawful, and its answer is in the words of the headline. What is written
 -- of a generated volume.
-use Rattle.std.proofs.Common.{◌≡◌, ℕ, suc, zero, ◌+◌, ◌*◌, ◌<◌, ◌≤◌, All, List, [], ◌∷◌, get_or, slice_index, length, ◌++◌, Option, Some, None, IfSome, refl, sym, ap, subst, ◌∙◌, arith}
+use Rattle.std.proofs.Common.{◌≡◌, ℕ, suc, zero, ◌*◌, ◌<◌, ◌≤◌, All, List, [], ◌∷◌, length, ◌++◌, Option, Some, None, IfSome, refl, sym, ap, subst, ◌∙◌, arith}
 use Rattle.std.proofs.lemmas.List.{get_or_default}
 use Rattle.agglo_model.specs.Axes.{Axes, IsWithinLimits, voxel_count}
-use Rattle.agglo_model.specs.Basins.{AreBasins, label_of}
+use Rattle.agglo_model.specs.Basins.{AreBasins}
 use Rattle.agglo_model.specs.Cutting.{Chunking, chunking}
 use Rattle.agglo_model.specs.Generated.{generated_volume}
 use Rattle.agglo_model.specs.Grid.{Grid, IsWhole}
-use Rattle.agglo_model.specs.Greedy.{Merge, after_merges}
+use Rattle.agglo_model.specs.Greedy.{Merge}
 use Rattle.agglo_model.specs.LabelFile.{label_file}
 use Rattle.agglo_model.specs.Laws.{LabelsAreBounded}
 use Rattle.agglo_model.specs.MergeLaws.{GreedyIsLawful}

@@ -1,10 +1,10 @@
 -- The states of a desk on which files are written one after another, and then a note.
-use Rattle.std.proofs.Common.{◌≡◌, ◌≢◌, ℕ, ◌≤◌, ◌⊎◌, List, [], ◌∷◌, ◌++◌, Option, Some, None, IfSome, Result, Ok, Err, MatchResult, refl, sym, ap, subst, ◌∙◌, inl, inr, append_assoc}
+use Rattle.std.proofs.Common.{◌≡◌, ◌≢◌, ℕ, List, [], ◌∷◌, ◌++◌, Option, Some, None, IfSome, Result, Ok, Err, MatchResult, refl, sym, ap, subst, ◌∙◌, inl, inr, append_assoc}
 use Rattle.std.specs.Option.{option_map}
 use Rattle.agglo_model.specs.Count.{Rose}
 use Rattle.seg_io.specs.declared.port.Port.{Port}
 use Rattle.seg_io.specs.declared.port.Port.TheVariants.{Labels, Tree, Volume, Note, Trouble}
-use Rattle.seg_io.specs.Desk.{DeskState, Opened, IsListed, CanOpen, appended, with_faults, OpensOutput, FailsToOpenOutput, FailsAfterWriting}
+use Rattle.seg_io.specs.Desk.{DeskState, Opened, IsListed, CanOpen, appended, with_faults, OpensOutput, FailsAfterWriting}
 use Rattle.agglo_cli.specs.Writing.{Output, WritesFile, CutsFile, WritesFiles, FailsInFile, FailsInFiles}
 
 -- ---- ports that are opened

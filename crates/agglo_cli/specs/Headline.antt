@@ -16,7 +16,7 @@ use Rattle.agglo_model.specs.VolumeFile.{volume_bytes}
 use Rattle.command_words.specs.Words.{SegmentSettings, MakeSettings, TrialSettings}
 use Rattle.seg_io.specs.Desk.{DeskState, appended}
 use Rattle.seg_io.specs.declared.port.Port.TheVariants.{Labels, Tree, Volume, Note}
-use Rattle.agglo_cli.specs.Reading.{ReadsFile, HasFile, file_of}
+use Rattle.agglo_cli.specs.Reading.{HasFile, file_of}
 use Rattle.agglo_cli.specs.Answers.{IsVolumeFile}
 
 -- One whole volume was read to its end, and what was written is exactly the label file and the merge tree file of

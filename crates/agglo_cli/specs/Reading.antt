@@ -1,5 +1,5 @@
 -- How a run reads its input.
-use Rattle.std.specs.Prelude.{◌≡◌, ℕ, List, [], Bool, true, Option, Some, IsSome, IfSome}
+use Rattle.std.specs.Prelude.{◌≡◌, ℕ, List, [], true, Option, Some, IsSome, IfSome}
 use Rattle.std.specs.Option.{option_and_then}
 use Rattle.agglo_model.specs.Count.{Rose}
 use Rattle.seg_io.specs.Desk.{DeskState, file_named}

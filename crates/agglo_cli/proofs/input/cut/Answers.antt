@@ -1,4 +1,3 @@
-use Rattle.chunk_tree.specs.Flaw.{flaw_of}
 use Rattle.agglo_cli.proofs.CutVolumes.{too_many, no_zero}
 use Rattle.agglo_cli.proofs.input.cut.Goals as goal
 

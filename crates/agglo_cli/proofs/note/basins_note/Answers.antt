@@ -1,7 +1,7 @@
 use Rattle.std.proofs.Common.{◌≡◌, ℕ, List, ◌++◌, ◌∷◌, [], length, codes, append_assoc, ap, sym, ◌∙◌}
 use Rattle.std.specs.Fmt.{decimal}
 use Rattle.agglo_model.specs.Axes.{voxel_count}
-use Rattle.agglo_model.specs.Basins.{foreground, names}
+use Rattle.agglo_model.specs.Basins.{foreground}
 use Rattle.agglo_model.specs.Note.{line}
 use Rattle.agglo_cli.proofs.note.basins_note.Goals as goal
 

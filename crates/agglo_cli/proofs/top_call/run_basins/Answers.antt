@@ -1,9 +1,7 @@
-use Rattle.std.proofs.Common.{◌≡◌, ℕ, List, [], ◌∷◌, refl, ap, subst, ◌∙◌}
+use Rattle.std.proofs.Common.{◌≡◌, ℕ, List, ◌∙◌}
 use Rattle.agglo_model.specs.Axes.{Axes}
-use Rattle.agglo_model.specs.LabelFile.{label_file}
 use Rattle.agglo_model.specs.Note.{basins_note}
 use Rattle.command_words.specs.Words.{BasinsSettings}
-use Rattle.agglo_cli.specs.Writing.{Answer}
 use Rattle.agglo_cli.specs.Answers.{basins_answer}
 use Rattle.agglo_cli.proofs.top_call.run_basins.Goals as goal
 

@@ -1,6 +1,5 @@
-use Rattle.std.proofs.Common.{◌≡◌, ap, subst, sym, ◌∙◌}
+use Rattle.std.proofs.Common.{ap, subst, sym, ◌∙◌}
 use Rattle.agglo_model.specs.Axes.{Axes}
-use Rattle.agglo_model.specs.Cutting.{Chunking}
 use Rattle.agglo_model.specs.MergeTree.{AreLawful}
 use Rattle.agglo_cli.proofs.Segmented.{lawful, answer_is}
 use Rattle.agglo_cli.proofs.top_call.run_segment.Goals as goal

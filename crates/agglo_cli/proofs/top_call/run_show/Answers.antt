@@ -1,8 +1,4 @@
-use Rattle.std.proofs.Common.{◌≡◌, ℕ, List, [], ◌∙◌, ap, subst}
-use Rattle.agglo_model.specs.TreeFile.{MergeTree}
-use Rattle.seg_io.specs.Desk.{DeskState, appended, FailsAfterWriting}
-use Rattle.seg_io.specs.declared.port.Port.TheVariants.{Note}
-use Rattle.agglo_cli.specs.Answers.{show_answer}
+use Rattle.std.proofs.Common.{[], ◌∙◌, ap}
 use Rattle.agglo_cli.proofs.top_call.run_show.Goals as goal
 
 pub returns-in-Ok : goal.returns-in-Ok
