@@ -2,16 +2,13 @@
 use Rattle.std.proofs.Common.{◌≡◌, ◌≢◌, ◌⊎◌, ℕ, ◌+◌, ◌*◌, ◌-◌, ◌/◌, ◌%◌, ◌<◌, ◌≤◌, min, max, Bool, true, false, not, ◌&&◌, ◌||◌, eqb, ltb, leb, List, [], ◌∷◌, ◌++◌, refl, sym, ap, ◌∙◌, subst, arith}
 use Rattle.std.proofs.lemmas.Bool.{and_from, lt-ltb, eqb-true, false≢true}
 use Rattle.std.proofs.lemmas.Bool.Decides.{nat_tests}
-use Rattle.std.proofs.lemmas.List.Elements.{All-contains}
 use Rattle.agglo_model.specs.Axes.{voxel_count, edge_count, coordinate, stride, is_edge}
 use Rattle.agglo_model.specs.Basins.{label_of}
 use Rattle.agglo_model.specs.Grid.{Grid, affinity}
 use Rattle.agglo_model.specs.Contacts.{are, differ, is_contact_edge, joins, lower_label, higher_label}
 use Rattle.agglo_model.specs.RegionGraph.{GraphEdge}
-use Rattle.agglo_model.proofs.Members.{All-from_contains}
 use Rattle.region_graph.specs.Lists.{AreOrdered, SameContacts, count_of}
 use Rattle.region_graph.specs.Boxes.{GainsContacts, ends_among, in_run}
-use Rattle.region_graph.proofs.Gaining.{each_more}
 use Rattle.region_graph.proofs.ContactGains.{alone, gains-nothing, gains-both, gains-same, gains-edge}
 
 -- ---- the edge of a voxel on an axis

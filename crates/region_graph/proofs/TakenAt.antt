@@ -1,6 +1,5 @@
 -- Lists in which one edge or region took in another, which is the same as a list with that one at its end.
-use Rattle.std.proofs.Common.{◌≡◌, ◌≢◌, ℕ, zero, suc, ◌+◌, ◌<◌, ◌≤◌, Bool, true, false, cond, ◌&&◌, ◌||◌, eqb, List, [], ◌∷◌, ◌++◌, length, get_or, set, sum_by, refl, sym, ap, ◌∙◌, subst, arith}
-use Rattle.std.specs.Prelude.{All, bit_or}
+use Rattle.std.proofs.Common.{◌≡◌, ◌≢◌, ℕ, zero, suc, ◌+◌, ◌<◌, ◌≤◌, Bool, true, false, cond, ◌&&◌, ◌||◌, eqb, List, [], ◌∷◌, ◌++◌, length, get_or, set, refl, sym, ap, ◌∙◌, subst, arith}
 use Rattle.std.specs.List.{list_any}
 use Rattle.std.proofs.lemmas.List.Sums.{sum_by-set}
 use Rattle.std.proofs.lemmas.List.Elements.{All-get_or, All-set}
@@ -11,7 +10,7 @@ use Rattle.agglo_model.specs.RegionGraph.{Region, GraphEdge, is_between, no_cont
 use Rattle.agglo_model.proofs.GraphContacts.{same_contact, joint, joint-append, joint-tie-le, contact_in-is, added-none}
 use Rattle.region_graph.specs.Lists.{AreNamed, AreOrdered, SameContacts, SameRegions, count_of, with_contact, with_faces_of}
 use Rattle.region_graph.proofs.EdgeSums.{joint-one}
-use Rattle.region_graph.proofs.RegionLists.{AgreeInTests, has_bit, has_bit-or, names_face, same_regions}
+use Rattle.region_graph.proofs.RegionLists.{has_bit, has_bit-or, names_face, same_regions}
 
 -- ---- edges
 

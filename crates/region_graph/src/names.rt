@@ -8,8 +8,8 @@ use crate::sums::add_region_at;
 use agglo_model::Memory;
 use seg_base::{Cell, Labels};
 
-/// Adds the names that occur in a box, each with these faces. A name may be added many times, but for those at
-/// places where it was added a short time ago.
+/// Adds the names that occur in a box, each with these faces. A name may be added many times: it is looked for
+/// only where it was added a short time ago.
 pub(crate) fn add_names(
     regions: &mut Vec<Region>,
     recent: &mut Recent,

@@ -3,8 +3,11 @@
 
 ghost use Rattle.std.specs.Prelude.{◌<◌};
 
-/// How many places are kept.
+/// How many places are kept: 2^9.
 const SLOTS: usize = 512;
+
+/// 2^64 by the golden ratio: the upper bits of a product with it are well spread.
+const FACTOR: u64 = 0x9e37_79b9_7f4a_7c15;
 
 /// Places in a list, by numbers that are made of what was added there.
 #[derive(Drop)]
@@ -29,9 +32,9 @@ impl Recent {
     }
 }
 
-/// The slot of a number: the upper bits of a product that all of its bits have a part in.
+/// The slot of a number: the upper nine bits of a product.
 fn slot(number: u64) -> usize
     ensures { result < SLOTS }
 {
-    (number.wrapping_mul(0x9e37_79b9_7f4a_7c15) >> 55) as usize
+    (number.wrapping_mul(FACTOR) >> 55) as usize
 }
