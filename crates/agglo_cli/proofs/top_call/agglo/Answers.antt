@@ -10,6 +10,9 @@ returns-in-Ok-clause-made g c = λ _. is_made _ _ _ c.one_task.ensures c.in-Ok.e
 pub returns-in-Ok-clause-tried : goal.returns-in-Ok-clause-tried
 returns-in-Ok-clause-tried g c = λ _. is_tried _ _ _ c.one_task.ensures c.in-Ok.ensures
 
+pub returns-in-Ok-clause-words : goal.returns-in-Ok-clause-words
+returns-in-Ok-clause-words g c = λ none. absurd (none _ c.in-Ok.ensures.spelled)
+
 pub returns-in-Ok-clause-at_once : goal.returns-in-Ok-clause-at_once
 returns-in-Ok-clause-at_once g c = λ bad. absurd (bad (spelled_may_be _ _ c.in-Ok.ensures.spelled))
 
