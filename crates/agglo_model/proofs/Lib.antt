@@ -15,6 +15,7 @@ pub mod Names
 pub mod Worked
 pub mod Means
 pub mod Members
+pub mod OneOrder
 pub mod GraphContacts
 pub mod GraphMerges
 pub mod GraphEdges
@@ -33,6 +34,7 @@ pub mod MutualRuns
 pub mod FirstEdges
 pub mod FirstExists
 pub mod FirstPartners
+pub mod GreedyRuns
 pub mod SortedMerges
 pub mod LawfulMerges
 pub mod Digits
@@ -55,10 +57,14 @@ pub mod StuckNames
 pub mod DroppedNames
 pub mod RootCell
 pub mod WorksRun
+pub mod LevelCounts
+pub mod OneAnswer
 pub mod NodeTests
 pub mod HeaderFlaws
 pub mod TreeBodies
+pub mod FileParts
 pub mod VolumesBack
 pub mod RecordFlaws
 pub mod SoundTrees
 pub mod ReadBack
+pub mod TreesWritten

@@ -1,14 +1,13 @@
 -- Reciprocal merges in any order: every run from the same labels ends in the same labels.
-use Rattle.std.proofs.Common.{◌≡◌, inl, inr, ℕ, List, [], ◌∷◌, sym, subst, arith}
-use Rattle.std.specs.Prelude.{IsPermutation}
+use Rattle.std.proofs.Common.{inl, inr, ℕ, List, [], ◌∷◌, sym, subst, arith}
 use Rattle.agglo_model.specs.Grid.{Grid}
 use Rattle.agglo_model.specs.PairOrder.{Threshold, Reaches}
 use Rattle.agglo_model.specs.Contacts.{between}
-use Rattle.agglo_model.specs.Greedy.{Merge, IsFirstPair, IsGreedyEnd, IsGreedyRun, IsMutual, IsMutualStep, IsMutualRun, after_merge, after_merges}
+use Rattle.agglo_model.specs.Greedy.{Merge, IsFirstPair, IsGreedyEnd, IsGreedyRun, IsMutual, IsMutualRun, after_merge}
 use Rattle.agglo_model.specs.MergeLaws.{AnyOrder, SameOutcome}
 use Rattle.agglo_model.proofs.Means.{before-reaches}
 use Rattle.agglo_model.proofs.Diamonds.{diamond}
-use Rattle.agglo_model.proofs.PairRuns.{IsRunOf, ArePairsKept, pair_cases, to_front_of, one_outcome}
+use Rattle.agglo_model.proofs.PairRuns.{IsRunOf, ArePairsKept, pair_cases, one_outcome}
 use Rattle.agglo_model.proofs.Falling.{first-any}
 
 -- a reciprocal pair is still one after the merge of another
@@ -29,34 +28,6 @@ to_pairs g t labels (m ∷ merges) run = (
   record { pair = run.0.reciprocal; contact_is = run.0.contact_is },
   to_pairs g t (after_merge labels m) merges run.1,
 )
-
-from_pairs : (g : Grid) (t : Threshold) (labels : List ℕ) (merges : List Merge)
-    → IsRunOf (IsMutual g t) g labels merges → IsMutualRun g t labels merges
-from_pairs g t labels [] run = run
-from_pairs g t labels (m ∷ merges) run = (
-  record { reciprocal = run.0.pair; contact_is = run.0.contact_is },
-  from_pairs g t (after_merge labels m) merges run.1,
-)
-
--- a run in which one merge was taken first
-pub record TakesFirst (g : Grid) (t : Threshold) (labels : List ℕ) (m : Merge) (merges : List Merge) : Type 0 where
-  pub rest : List Merge
-  pub run : IsMutualRun g t (after_merge labels m) rest
-  pub reordered : IsPermutation merges (m ∷ rest)
-  pub same_labels : after_merges labels merges ≡ after_merges (after_merge labels m) rest
-
--- a run takes each merge that is open at its start, and may as well take it first
-pub to_front : (g : Grid) (t : Threshold) (labels : List ℕ) (merges : List Merge) (m : Merge)
-    → IsMutualRun g t labels merges → IsMutualStep g t labels m → TakesFirst g t labels m merges
-to_front g t labels merges m run step =
-    let front = to_front_of (IsMutual g t) g (mutual_kept g t) labels merges m (to_pairs g t labels merges run)
-    (record { pair = step.reciprocal; contact_is = step.contact_is }) in
-    record {
-      rest = front.rest;
-      run = from_pairs g t (after_merge labels m) front.rest front.run;
-      reordered = front.reordered;
-      same_labels = front.same_labels;
-    }
 
 -- two runs of reciprocal merges from the same labels have the same outcome
 same_outcome : (g : Grid) (t : Threshold) (labels : List ℕ) (merges others : List Merge)

@@ -30,7 +30,7 @@ ArePairsKept Pair g = (labels : List ℕ) (a b c d : ℕ) → Pair labels a b �
     → StaysPair Pair g labels a b c d
 
 -- a run in which one merge was taken first
-pub record TakesFirstOf (Pair : List ℕ → ℕ → ℕ → Type 0) (g : Grid) (labels : List ℕ) (m : Merge) (merges : List Merge) : Type 0 where
+record TakesFirstOf (Pair : List ℕ → ℕ → ℕ → Type 0) (g : Grid) (labels : List ℕ) (m : Merge) (merges : List Merge) : Type 0 where
   pub rest : List Merge
   pub run : IsRunOf Pair g (after_merge labels m) rest
   pub reordered : IsPermutation merges (m ∷ rest)
@@ -89,7 +89,7 @@ module _ (Pair : List ℕ → ℕ → ℕ → Type 0) (g : Grid) (kept : ArePair
       }
 
   -- a run takes each merge that is open at its start, and may as well take it first
-  pub to_front_of : (labels : List ℕ) (merges : List Merge) (m : Merge) → IsRunOf Pair g labels merges
+  to_front_of : (labels : List ℕ) (merges : List Merge) (m : Merge) → IsRunOf Pair g labels merges
       → IsStepOf Pair g labels m → TakesFirstOf Pair g labels m merges
   to_front_of labels [] m run step = absurd (run m.survivor m.absorbed step.pair)
   to_front_of labels (n ∷ merges) m run step =

@@ -1,91 +1,27 @@
--- A run of reciprocal merges, put into pair order, is the greedy run.
-use Rattle.std.proofs.Common.{◌≡◌, ◌⊎◌, inl, inr, ℕ, zero, suc, ◌+◌, ◌<◌, List, [], ◌∷◌, length, get_or, refl, sym, ap, ◌∙◌, subst, arith}
-use Rattle.std.specs.Prelude.{IsPermutation, Contains}
-use Rattle.std.proofs.lemmas.List.Sorted.{IsPermutation-refl, IsPermutation-cons, IsPermutation-trans, IsPermutation-sym, length_permutation, Contains-permutation}
+-- A run of reciprocal merges, put into pair order, is the greedy run, and there is one greedy run.
+use Rattle.std.proofs.Common.{◌≡◌, inl, inr, ℕ, zero, suc, ◌+◌, ◌<◌, List, [], ◌∷◌, length, get_or, sym, ap, ◌∙◌, subst, arith}
+use Rattle.std.specs.Prelude.{IsPermutation, Contains, AllPairs}
+use Rattle.std.proofs.lemmas.List.Kept.{AllPairs-cons}
+use Rattle.std.proofs.lemmas.List.Sorted.{IsPermutation-trans, IsPermutation-sym, Contains-permutation}
 use Rattle.std.proofs.lemmas.List.Elements.{Contains-get_or}
 use Rattle.agglo_model.specs.Grid.{Grid}
-use Rattle.agglo_model.specs.PairOrder.{Threshold, Before, Reaches}
-use Rattle.agglo_model.specs.Contacts.{between}
-use Rattle.agglo_model.specs.Greedy.{Merge, IsFirstPair, IsGreedyRun, IsMutualRun, after_merge, after_merges}
-use Rattle.agglo_model.specs.MergeLaws.{AreFalling, SameOutcome, SortedIsGreedy}
-use Rattle.agglo_model.proofs.Means.{before_irrefl, before_asym, before_trans}
-use Rattle.agglo_model.proofs.FirstExists.{end_or_step}
+use Rattle.agglo_model.specs.PairOrder.{Threshold, Before}
+use Rattle.agglo_model.specs.Greedy.{Merge, RanksFirst, IsGreedyRun, IsMutualRun, after_merge, after_merges}
+use Rattle.agglo_model.specs.MergeLaws.{AreFalling, OneGreedyRun, SortedIsGreedy}
+use Rattle.agglo_model.proofs.Means.{before_asym, before_trans}
+use Rattle.agglo_model.proofs.Members.{contains_head, contains_tail, contains_cases, contains_none}
+use Rattle.agglo_model.proofs.OneOrder.{one_order}
 use Rattle.agglo_model.proofs.Falling.{greedy_falls}
-use Rattle.agglo_model.proofs.MutualRuns.{TakesFirst, to_front, first_is_mutual, end_has_no_mutual}
-
--- a greedy run with the outcome of another run
-record GreedyTwin (g : Grid) (t : Threshold) (labels : List ℕ) (merges : List Merge) : Type 0 where
-  greedy : List Merge
-  run : IsGreedyRun g t labels greedy
-  same : SameOutcome labels merges greedy
-
--- the merge of two names with their contact
-abbrev merge_at : Grid → List ℕ → ℕ → ℕ → Merge
-merge_at g labels a b = record { survivor = a; absorbed = b; contact = between g labels a b }
-
-twin_of_step : (g : Grid) (t : Threshold) (labels : List ℕ) (merges : List Merge) (a b : ℕ)
-    → IsFirstPair g labels a b → Reaches t (between g labels a b)
-    → (front : TakesFirst g t labels (merge_at g labels a b) merges)
-    → GreedyTwin g t (after_merge labels (merge_at g labels a b)) front.rest
-    → GreedyTwin g t labels merges
-twin_of_step g t labels merges a b first reaches front twin =
-    let m = merge_at g labels a b in
-    record {
-      greedy = m ∷ twin.greedy;
-      run = (record { first = first; contact_is = refl; reaches = reaches }, twin.run);
-      same = record {
-        same_labels = front.same_labels ∙ twin.same.same_labels;
-        same_merges = IsPermutation-trans merges (m ∷ front.rest) (m ∷ twin.greedy) front.reordered
-            (IsPermutation-cons m front.rest twin.greedy twin.same.same_merges);
-      };
-    }
-
-front_of_step : (g : Grid) (t : Threshold) (labels : List ℕ) (merges : List Merge) (a b : ℕ)
-    → IsMutualRun g t labels merges → IsFirstPair g labels a b → Reaches t (between g labels a b)
-    → TakesFirst g t labels (merge_at g labels a b) merges
-front_of_step g t labels merges a b run first reaches =
-    to_front g t labels merges (merge_at g labels a b) run
-    (record { reciprocal = first_is_mutual g t labels a b first reaches; contact_is = refl })
-
--- for every run of reciprocal merges there is a greedy run
-greedy_twin : (n : ℕ) (g : Grid) (t : Threshold) (labels : List ℕ) (merges : List Merge)
-    → length merges ≡ n → IsMutualRun g t labels merges → GreedyTwin g t labels merges
-greedy_twin n g t labels [] len run = elim (end_or_step g t labels) [
-  | inl stop ↦ record {
-    greedy = [];
-    run = stop;
-    same = record { same_labels = refl; same_merges = IsPermutation-refl [] };
-  }
-  | inr (a, b, first, reaches) ↦ absurd (run a b (first_is_mutual g t labels a b first reaches))
-]
-greedy_twin zero g t labels (m ∷ merges) len run = absurd (omega arith)
-greedy_twin (suc n) g t labels (m ∷ merges) len run = elim (end_or_step g t labels) [
-  | inl stop ↦ absurd (end_has_no_mutual g t labels stop m.survivor m.absorbed run.0.reciprocal)
-  | inr (a, b, first, reaches) ↦
-      let front = front_of_step g t labels (m ∷ merges) a b run first reaches in
-      let shorter = length_permutation (m ∷ merges) (merge_at g labels a b ∷ front.rest) front.reordered in
-      twin_of_step g t labels (m ∷ merges) a b first reaches front
-      (greedy_twin n g t (after_merge labels (merge_at g labels a b)) front.rest (omega (arith, len, shorter)) front.run)
-]
+use Rattle.agglo_model.proofs.GreedyRuns.{greedy_runs_exist}
+use Rattle.agglo_model.proofs.MutualRuns.{greedy_is_mutual, any_order}
 
 -- each merge of the list has a contact with some edge
 abbrev HaveEdges : List Merge → Type 0
 HaveEdges merges = (m : Merge) → Contains merges m → 0 < m.contact.count
 
-contains_head : (m : Merge) (merges : List Merge) → Contains (m ∷ merges) m
-contains_head m merges = (0, omega arith, refl)
-
-contains_tail : (m x : Merge) (merges : List Merge) → Contains merges x → Contains (m ∷ merges) x
-contains_tail m x merges (k, below, same) = (suc k, omega arith, same)
-
-contains_cases : (m x : Merge) (merges : List Merge) → Contains (m ∷ merges) x
-    → (m ≡ x) ⊎ Contains merges x
-contains_cases m x merges (zero, below, same) = inl same
-contains_cases m x merges (suc k, below, same) = inr (k, omega arith, same)
-
 have_edges : (g : Grid) (t : Threshold) (labels : List ℕ) (merges : List Merge)
     → IsMutualRun g t labels merges → HaveEdges merges
-have_edges g t labels [] run x (k, below, same) = absurd (omega arith)
+have_edges g t labels [] run x inside = absurd (contains_none x inside)
 have_edges g t labels (m ∷ merges) run x inside = elim (contains_cases m x merges inside) [
   | inl same ↦ subst (λ y. 0 < y.contact.count) same
       (subst (λ c. 0 < c.count) (sym run.0.contact_is) run.0.reciprocal.touching)
@@ -116,78 +52,39 @@ head_first m merges falling edges (suc k) d below =
     at_place : (j : ℕ) → j < length merges → Contains merges (get_or merges j d)
     at_place j inside = Contains-get_or merges j d inside
 
-head_before : (m x : Merge) (merges : List Merge) → AreFalling (m ∷ merges) → HaveEdges (m ∷ merges)
-    → Contains merges x → Before m.contact x.contact
-head_before m x merges falling edges (k, below, same) =
-    subst (λ y. Before m.contact y.contact) same (head_first m merges falling edges k x below)
+-- so each comes before all that follow
+falling_apart : (merges : List Merge) → AreFalling merges → HaveEdges merges → AllPairs RanksFirst merges
+falling_apart [] falling edges = λ i j d before below. absurd (omega arith)
+falling_apart (m ∷ merges) falling edges =
+    AllPairs-cons RanksFirst m merges (λ k d below. head_first m merges falling edges k d below)
+    (falling_apart merges (falling_tail m merges falling) (λ x inside. edges x (contains_tail m x merges inside)))
 
--- the heads of two falling lists with the same elements are equal
-same_head : (m n : Merge) (merges others : List Merge) → AreFalling (m ∷ merges) → AreFalling (n ∷ others)
-    → HaveEdges (m ∷ merges) → HaveEdges (n ∷ others)
-    → Contains (n ∷ others) m → Contains (m ∷ merges) n → m ≡ n
-same_head m n merges others falling falling' edges edges' inside inside' =
-    elim (contains_cases n m others inside) [
-      | inl same ↦ sym same
-      | inr later ↦ elim (contains_cases m n merges inside') [
-        | inl same ↦ same
-        | inr later' ↦ absurd (before_asym n.contact m.contact
-            (head_before n m others falling' edges' later)
-            (head_before m n merges falling edges later'))
-      ]
-    ]
-
--- what follows the head of one list follows the head of the other
-in_tail : (m n x : Merge) (merges others : List Merge) → AreFalling (m ∷ merges) → HaveEdges (m ∷ merges)
-    → m ≡ n → Contains merges x → Contains (n ∷ others) x → Contains others x
-in_tail m n x merges others falling edges same inside inside' =
-    elim (contains_cases n x others inside') [
-      | inl head ↦ absurd (before_irrefl x.contact
-          (subst (λ y. Before y.contact x.contact) (same ∙ head) (head_before m x merges falling edges inside)))
-      | inr later ↦ later
-    ]
-
--- two falling lists with the same elements are one list
-one_list : (merges others : List Merge) → AreFalling merges → AreFalling others → HaveEdges merges
-    → HaveEdges others → ((x : Merge) → Contains merges x → Contains others x)
-    → ((x : Merge) → Contains others x → Contains merges x) → merges ≡ others
-one_list [] [] falling falling' edges edges' into back = refl
-one_list [] (n ∷ others) falling falling' edges edges' into back =
-    absurd (none_inside (back n (contains_head n others)))
-  where
-    none_inside : Contains [] n → ⊥
-    none_inside (k, below, same) = omega arith
-one_list (m ∷ merges) [] falling falling' edges edges' into back =
-    absurd (none_inside (into m (contains_head m merges)))
-  where
-    none_inside : Contains [] m → ⊥
-    none_inside (k, below, same) = omega arith
-one_list (m ∷ merges) (n ∷ others) falling falling' edges edges' into back =
-    let head = same_head m n merges others falling falling' edges edges'
-    (into m (contains_head m merges)) (back n (contains_head n others)) in
-    let tail = one_list merges others (falling_tail m merges falling) (falling_tail n others falling')
-    (λ x inside. edges x (contains_tail m x merges inside))
-    (λ x inside. edges' x (contains_tail n x others inside))
-    (λ x inside. in_tail m n x merges others falling edges head inside
-    (into x (contains_tail m x merges inside)))
-    (λ x inside. in_tail n m x others merges falling' edges' (sym head) inside
-    (back x (contains_tail n x others inside))) in
-    λ i. head i ∷ tail i
+-- two falling lists of the same merges are one list
+one_list : (merges others : List Merge) → HaveEdges merges → AreFalling merges → AreFalling others
+    → IsPermutation merges others → merges ≡ others
+one_list merges others edges falling falling' same =
+    let back = IsPermutation-sym merges others same in
+    one_order RanksFirst (λ m n. before_asym m.contact n.contact) merges others
+    (falling_apart merges falling edges)
+    (falling_apart others falling' (λ x inside. edges x (Contains-permutation others merges x back inside)))
+    (λ x inside. Contains-permutation merges others x same inside)
+    (λ x inside. Contains-permutation others merges x back inside)
 
 pub sorted_is_greedy : SortedIsGreedy
 sorted_is_greedy g t labels merges sorted run moved falling =
-    let twin = greedy_twin (length merges) g t labels merges refl run in
-    let edges = have_edges g t labels merges run in
-    let both : IsPermutation twin.greedy sorted = IsPermutation-trans twin.greedy merges sorted
-    (IsPermutation-sym merges twin.greedy twin.same.same_merges) moved in
-    let back = IsPermutation-sym twin.greedy sorted both in
-    let sorted_back = IsPermutation-sym merges sorted moved in
-    let greedy_back = IsPermutation-sym merges twin.greedy twin.same.same_merges in
-    let equal : twin.greedy ≡ sorted = one_list twin.greedy sorted
-    (greedy_falls g t labels twin.greedy twin.run) falling
-    (λ x inside. edges x (Contains-permutation twin.greedy merges x greedy_back inside))
-    (λ x inside. edges x (Contains-permutation sorted merges x sorted_back inside))
-    (λ x inside. Contains-permutation twin.greedy sorted x both inside)
-    (λ x inside. Contains-permutation sorted twin.greedy x back inside) in (
-      subst (IsGreedyRun g t labels) equal twin.run,
-      twin.same.same_labels ∙ ap (after_merges labels) equal,
-    )
+    let greedy = (greedy_runs_exist g t labels).0 in
+    let is_run = (greedy_runs_exist g t labels).1 in
+    let same = any_order g t labels merges greedy run is_run in
+    let equal : greedy ≡ sorted = one_list greedy sorted
+    (have_edges g t labels greedy (greedy_is_mutual g t labels greedy is_run))
+    (greedy_falls g t labels greedy is_run) falling
+    (IsPermutation-trans greedy merges sorted (IsPermutation-sym merges greedy same.same_merges) moved) in
+    (subst (IsGreedyRun g t labels) equal is_run, same.same_labels ∙ ap (after_merges labels) equal)
+
+pub one_greedy_run : OneGreedyRun
+one_greedy_run g t labels merges others run other =
+    let pairs = greedy_is_mutual g t labels merges run in
+    let same = any_order g t labels merges others pairs other in
+    let equal = one_list merges others (have_edges g t labels merges pairs) (greedy_falls g t labels merges run)
+    (greedy_falls g t labels others other) same.same_merges in
+    (equal, same.same_labels)

@@ -71,7 +71,7 @@ one_more_sound axes t earlier m all one = record {
 }
 
 -- the flaw that comes first, where there is none
-first_none : {X : Type 0} → (o p : Option X) → option_or o p ≡ None → (o ≡ None) × (p ≡ None)
+pub first_none : {X : Type 0} → (o p : Option X) → option_or o p ≡ None → (o ≡ None) × (p ≡ None)
 first_none None p e = (refl, e)
 first_none (Some x) p e = absurd (cc)
 

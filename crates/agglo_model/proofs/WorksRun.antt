@@ -10,7 +10,7 @@ use Rattle.agglo_model.specs.PairOrder.{Threshold}
 use Rattle.agglo_model.specs.Greedy.{Merge, IsMutual, IsMutualRun, after_merge, after_merges}
 use Rattle.agglo_model.specs.Cutting.{Chunking, IsChunking, root}
 use Rattle.agglo_model.specs.Work.{IsFree, IsReciprocal, IsWork, AreWorksFrom, all_merges, work_of, labels_before, labels_after}
-use Rattle.agglo_model.specs.NodeLaws.{WorksAreRun}
+use Rattle.agglo_model.specs.NodeLaws.{RootHasAllPairs, WorksAreRun}
 use Rattle.agglo_model.proofs.Paths.{neighbours_swap}
 use Rattle.agglo_model.proofs.CloseVoxels.{neighbour_below}
 use Rattle.agglo_model.proofs.ConnectedMerges.{bridge}
@@ -53,8 +53,7 @@ free_in_root c h labels x v below name = record {
 }
 
 -- so a reciprocal pair is one of the root
-reciprocal_in_root : (g : Grid) (t : Threshold) (c : Chunking) → IsChunking c → c.axes ≡ g.axes → (labels : List ℕ) (a b : ℕ)
-    → IsMutual g t labels a b → IsReciprocal g t c (root c) labels a b
+pub reciprocal_in_root : RootHasAllPairs
 reciprocal_in_root g t c h axes labels a b pair =
     let over = bridge g labels a b pair.touching in
     let from : over.from < voxel_count c.axes = subst (λ z. over.from < voxel_count z) (sym axes)

@@ -9,7 +9,7 @@ use Rattle.agglo_model.specs.EdgeOrder.{IsBest, HasNoBest}
 abbrev pub label_of : List ℕ → ℕ → ℕ
 label_of labels v = slice_index labels v
 
--- label 0 is background: it stands exactly where no strong edge is
+-- label 0 is background: it stands exactly where no edge is best
 abbrev pub BackgroundIsUnlabelled : Grid → ℕ → List ℕ → Type 0
 BackgroundIsUnlabelled g low labels =
     (v : ℕ) → v < voxel_count g.axes → (label_of labels v ≡ 0) ↔ HasNoBest g low v

@@ -22,6 +22,6 @@ pub record IsBest (g : Grid) (low v e : ℕ) : Type 0 where
   pub strong : IsStrongAt g low v e
   pub first : (f : ℕ) → IsStrongAt g low v f → f ≢ e → EdgeBefore g e f
 
--- no strong edge meets v
+-- no edge is best at v
 abbrev pub HasNoBest : Grid → ℕ → ℕ → Type 0
 HasNoBest g low v = (e : ℕ) → ¬ (IsBest g low v e)

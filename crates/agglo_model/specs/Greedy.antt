@@ -10,6 +10,10 @@ pub record Merge : Type 0 where
   pub absorbed : ℕ
   pub contact : Contact
 
+-- one merge comes before another in pair order: its contact does
+abbrev pub RanksFirst : Merge → Merge → Type 0
+RanksFirst m n = Before m.contact n.contact
+
 -- the labels after a merge, and after several, one after another
 abbrev pub after_merge : List ℕ → Merge → List ℕ
 after_merge labels m = renamed labels m.survivor m.absorbed

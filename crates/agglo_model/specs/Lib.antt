@@ -32,6 +32,7 @@ pub mod RegionGraph
 pub mod Settling
 pub mod NodeLaws
 pub mod Segmentation
+pub mod SegmentationLaws
 pub mod NodeExamples
 pub mod Joining
 pub mod JoiningLaws

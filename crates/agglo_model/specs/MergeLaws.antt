@@ -3,9 +3,9 @@ use Rattle.std.specs.Prelude.{◌≡◌, ◌≢◌, ℕ, ◌<◌, ◌≤◌, ◌
 use Rattle.std.specs.List.{AllAdjacentBelow}
 use Rattle.agglo_model.specs.Axes.{voxel_count}
 use Rattle.agglo_model.specs.Grid.{Grid}
-use Rattle.agglo_model.specs.PairOrder.{Threshold, Before}
+use Rattle.agglo_model.specs.PairOrder.{Threshold}
 use Rattle.agglo_model.specs.Contacts.{between, renamed}
-use Rattle.agglo_model.specs.Greedy.{Merge, IsMutual, IsMutualRun, IsGreedyRun, after_merges}
+use Rattle.agglo_model.specs.Greedy.{Merge, RanksFirst, IsMutual, IsMutualRun, IsGreedyRun, after_merges}
 use Rattle.agglo_model.specs.MergeTree.{AreLawful}
 
 -- Two reciprocal pairs share no name. After the merge of a and b the pair of c and d is still
@@ -23,8 +23,7 @@ Diamond = (g : Grid) (t : Threshold) (labels : List ℕ) (a b c d : ℕ)
 
 -- each contact comes before that of the next merge
 abbrev pub AreFalling : List Merge → Type 0
-AreFalling merges =
-    AllAdjacentBelow (λ m n. Before m.contact n.contact) merges (length merges)
+AreFalling merges = AllAdjacentBelow RanksFirst merges (length merges)
 
 abbrev pub GreedyFalls : Type 0
 GreedyFalls = (g : Grid) (t : Threshold) (labels : List ℕ) (merges : List Merge)
@@ -46,6 +45,16 @@ abbrev pub SortedIsGreedy : Type 0
 SortedIsGreedy = (g : Grid) (t : Threshold) (labels : List ℕ) (merges sorted : List Merge)
     → IsMutualRun g t labels merges → IsPermutation merges sorted → AreFalling sorted
     → IsGreedyRun g t labels sorted × (after_merges labels merges ≡ after_merges labels sorted)
+
+-- From any labels there is a greedy run.
+abbrev pub GreedyRunsExist : Type 0
+GreedyRunsExist = (g : Grid) (t : Threshold) (labels : List ℕ) → (merges : List Merge) × IsGreedyRun g t labels merges
+
+-- And there is one alone: two have the same merges, and end in the same labels.
+abbrev pub OneGreedyRun : Type 0
+OneGreedyRun = (g : Grid) (t : Threshold) (labels : List ℕ) (merges others : List Merge)
+    → IsGreedyRun g t labels merges → IsGreedyRun g t labels others
+    → (merges ≡ others) × (after_merges labels merges ≡ after_merges labels others)
 
 -- The merges of greedy agglomeration are a lawful list, where labels are no greater than the number of
 -- voxels and affinities are bytes.

@@ -4,8 +4,8 @@ use Rattle.std.specs.List.{flat_map, AllAdjacentBelow}
 use Rattle.std.specs.Int.{w64, to_le_bytes}
 use Rattle.agglo_model.specs.Axes.{Axes, voxel_count, edge_count}
 use Rattle.agglo_model.specs.LabelFile.{u32_bytes, axes_bytes}
-use Rattle.agglo_model.specs.PairOrder.{Contact, Threshold, Before, Reaches}
-use Rattle.agglo_model.specs.Greedy.{Merge}
+use Rattle.agglo_model.specs.PairOrder.{Contact, Threshold, Reaches}
+use Rattle.agglo_model.specs.Greedy.{Merge, RanksFirst}
 
 -- the survivor is the smaller of two names that voxels can have
 pub record HasNames (axes : Axes) (m : Merge) : Type 0 where
@@ -32,7 +32,7 @@ pub record AreLawful (axes : Axes) (t : Threshold) (merges : List Merge) : Type 
   pub names : All (HasNames axes) merges
   pub alive : AllPairs Keeps merges
   pub numbers : All (λ m. HasNumbers axes m.contact) merges
-  pub falling : AllAdjacentBelow (λ m n. Before m.contact n.contact) merges (length merges)
+  pub falling : AllAdjacentBelow RanksFirst merges (length merges)
   pub reaching : All (λ m. Reaches t m.contact) merges
 
 -- the text that a tree file begins with

@@ -7,10 +7,10 @@ use Rattle.agglo_model.specs.Grid.{Grid}
 use Rattle.agglo_model.specs.Basins.{AreBasins, label_of}
 use Rattle.agglo_model.specs.PairOrder.{Threshold, Reaches}
 use Rattle.agglo_model.specs.Contacts.{joins, between, InContact, renamed}
-use Rattle.agglo_model.specs.Greedy.{Merge, IsMutualRun}
+use Rattle.agglo_model.specs.Greedy.{Merge, IsMutual, IsMutualRun}
 use Rattle.agglo_model.specs.MergeLaws.{SameOutcome}
 use Rattle.agglo_model.specs.Connected.{AreConnected}
-use Rattle.agglo_model.specs.Cutting.{Chunking, IsChunking, node_count, cells_at, parent, low_corner, high_corner}
+use Rattle.agglo_model.specs.Cutting.{Chunking, IsChunking, node_count, cells_at, root, parent, low_corner, high_corner}
 use Rattle.agglo_model.specs.Freezing.{is_held, is_inside, occurs_in, IsFrozen}
 use Rattle.agglo_model.specs.Work.{IsFree, IsReciprocal, IsWork, IsOrderedWork, AreFirstWorks, work_of, labels_before, labels_within, labels_after, IsPassed, IsFirstPartner, all_merges}
 
@@ -98,6 +98,11 @@ DroppedNamesStay = (g : Grid) (t : Threshold) (c : Chunking) (labels : List ℕ)
     → AreWorksOn g t c labels works → (m x : ℕ) → m < length works → x ≢ 0
     → IsTrue (occurs_in c m (labels_after labels works m) x)
     → ¬ (IsPassed g t c m (labels_after labels works m) x) → IsDropped g t labels works m x
+
+-- a reciprocal pair of the whole volume is one of the root
+abbrev pub RootHasAllPairs : Type 0
+RootHasAllPairs = (g : Grid) (t : Threshold) (c : Chunking) → IsChunking c → c.axes ≡ g.axes → (labels : List ℕ) (a b : ℕ)
+    → IsMutual g t labels a b → IsReciprocal g t c (root c) labels a b
 
 -- the works of all nodes, one after another, are a run of reciprocal merges of the whole volume
 abbrev pub WorksAreRun : Type 0

@@ -22,7 +22,7 @@ pub fn counted_names()
     ensures { NamesAreCounted }
 {}
 
-/// A voxel has a best edge wherever a strong edge meets it.
+/// A voxel has a best edge exactly where a strong edge meets it.
 pub fn best_where_strong()
     ensures { BestIsWhereStrongIs }
 {}

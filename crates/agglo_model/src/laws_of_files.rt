@@ -1,6 +1,6 @@
 //! Laws over the bytes of files, each a function that does nothing and whose contract is the law.
 ghost use Rattle.agglo_model.specs.Numbers.{BytesWriteBack, NumbersReadBack};
-ghost use Rattle.agglo_model.specs.VolumeLaws.{VolumesReadBack};
+ghost use Rattle.agglo_model.specs.VolumeLaws.{SoundFilesHoldVolumes, VolumesReadBack};
 
 /// A number reads back from the bytes that it is written as, four or eight of them.
 pub fn numbers_read_back()
@@ -16,4 +16,10 @@ pub fn bytes_write_back()
 #[tactic(auto, using(crate::proofs::VolumesBack::volumes_read_back))]
 pub fn volumes_read_back()
     ensures { VolumesReadBack }
+{}
+
+/// Bytes without a flaw hold a whole volume, and are the file of that volume.
+#[tactic(auto, using(crate::proofs::VolumesBack::sound_volume))]
+pub fn sound_files_hold_volumes()
+    ensures { SoundFilesHoldVolumes }
 {}

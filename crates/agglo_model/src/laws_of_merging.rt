@@ -1,7 +1,7 @@
 //! Laws of whole runs of merges. Each function has no body: its contract is the law, over the
 //! definitions alone.
 
-ghost use Rattle.agglo_model.specs.MergeLaws.{AnyOrder, Diamond, GreedyFalls, GreedyIsLawful, SortedIsGreedy};
+ghost use Rattle.agglo_model.specs.MergeLaws.{AnyOrder, Diamond, GreedyFalls, GreedyIsLawful, GreedyRunsExist, OneGreedyRun, SortedIsGreedy};
 
 /// Reciprocal pairs have no name in common, so merging one of them leaves the other reciprocal, with
 /// the contact that it had, and the labels do not tell which of the two was merged first.
@@ -25,6 +25,17 @@ pub fn any_order_is_greedy()
 /// The merges of a run in whatever order, put into pair order, are those of greedy agglomeration.
 pub fn sorted_merges_are_greedy()
     ensures { SortedIsGreedy }
+{}
+
+/// Greedy agglomeration ends: from any labels there is a greedy run.
+#[tactic(auto, using(crate::proofs::GreedyRuns::greedy_runs_exist))]
+pub fn greedy_runs_exist()
+    ensures { GreedyRunsExist }
+{}
+
+/// There is one greedy run from given labels: two have the same merges, and so the same labels at the end.
+pub fn one_greedy_run()
+    ensures { OneGreedyRun }
 {}
 
 /// The merges of greedy agglomeration can be written to a tree file: they are a lawful list.

@@ -1,7 +1,8 @@
 //! Why work on chunks gives the answer of the whole volume. Each function has no body: its contract
 //! is the law, over the definitions alone.
 
-ghost use Rattle.agglo_model.specs.NodeLaws.{BasinsAreConnected, CellsAreBoxes, CellsWait, DroppedNamesStay, FreeNamesLieInside, FrozenNamesAreWhole, LeavesStartFresh, MergesKeepConnected, NodeDiamond, OrderedWorkIsWork, WorksAgree, WorksAreRun};
+ghost use Rattle.agglo_model.specs.NodeLaws.{BasinsAreConnected, CellsAreBoxes, CellsWait, DroppedNamesStay, FreeNamesLieInside, FrozenNamesAreWhole, LeavesStartFresh, MergesKeepConnected, NodeDiamond, OrderedWorkIsWork, RootHasAllPairs, WorksAgree, WorksAreRun};
+ghost use Rattle.agglo_model.specs.SegmentationLaws.{CuttingsAgree, LevelsAgree};
 
 /// Any two voxels of a basin are joined by a path of edges inside the basin.
 pub fn basins_are_connected()
@@ -71,9 +72,26 @@ pub fn dropped_names_stay()
     ensures { DroppedNamesStay }
 {}
 
+/// A reciprocal pair of the whole volume is one of the root, so the root's work leaves none.
+pub fn root_has_all_pairs()
+    ensures { RootHasAllPairs }
+{}
+
 /// The works of all nodes, one after another, are a run of reciprocal merges of the whole volume. So they
 /// end in the labels of greedy agglomeration, by the law `any_order_is_greedy`.
 #[tactic(auto, using(crate::proofs::WorksRun::works_are_run))]
 pub fn works_are_a_run()
     ensures { WorksAreRun }
+{}
+
+/// There is one list of levels for each cutting: works of all its nodes, in whatever order each merges, count
+/// the same at each level.
+pub fn levels_agree()
+    ensures { LevelsAgree }
+{}
+
+/// Whatever the cutting, a volume has one answer: by any two of them the labels, the number of basins and the
+/// merges are the same.
+pub fn cuttings_agree()
+    ensures { CuttingsAgree }
 {}
