@@ -12,7 +12,7 @@ use Rattle.agglo_model.specs.RegionGraph.{RegionGraph, HasRegion, IsCellGraph, I
 use Rattle.agglo_model.specs.Settling.{Settles}
 
 -- node m of a cutting of the volume, in which each name is connected
-pub record IsPlace (g : Grid) (c : Chunking) (m : ℕ) (labels : List ℕ) : Type 0 where
+pub record IsNodeOf (g : Grid) (c : Chunking) (m : ℕ) (labels : List ℕ) : Type 0 where
   pub cutting : IsChunking c
   pub axes : c.axes ≡ g.axes
   pub node : m < node_count c
@@ -21,7 +21,7 @@ pub record IsPlace (g : Grid) (c : Chunking) (m : ℕ) (labels : List ℕ) : Typ
 -- The graph of the names of node m of which `Keeps` holds. It holds of the names that are frozen in the node, and no
 -- contact of another name that occurs there reaches the threshold.
 pub record IsNodeGraph (Keeps : ℕ → Type 0) (g : Grid) (t : Threshold) (c : Chunking) (m : ℕ) (labels : List ℕ) (graph : RegionGraph) : Type 0 where
-  pub place : IsPlace g c m labels
+  pub place : IsNodeOf g c m labels
   pub graph_is : IsGraphOfNames Keeps g c m labels graph
   pub frozen_kept : (x : ℕ) → x ≢ 0 → IsFrozen c m labels x → Keeps x
   pub others_stuck : (x y : ℕ) → x ≢ 0 → IsTrue (occurs_in c m labels x) → ¬ (Keeps x)
@@ -42,7 +42,7 @@ SettlingIsWork = (keeps : ℕ → Bool) (g : Grid) (t : Threshold) (c : Chunking
 -- the same for the graph of all names in the cell
 abbrev pub SettlingCellIsWork : Type 0
 SettlingCellIsWork = (g : Grid) (t : Threshold) (c : Chunking) (m : ℕ) (labels : List ℕ) (graph : RegionGraph)
-    (merges : List Merge) (left : RegionGraph) → IsPlace g c m labels → IsCellGraph g c m labels graph
+    (merges : List Merge) (left : RegionGraph) → IsNodeOf g c m labels → IsCellGraph g c m labels graph
     → Settles t (artificial_faces c m) graph merges left → IsWorkOf g t c m labels merges left
 
 -- one of the graphs has a region of the name x
