@@ -1,4 +1,4 @@
-ghost use Rattle.std.specs.Prelude.{◌≡◌, ◌+◌, ◌*◌, ◌<◌, ◌≤◌, ◌∷◌, [], MatchOption, MatchResult, None, Some};
+ghost use Rattle.std.specs.Prelude.{◌≡◌, ◌+◌, ◌*◌, ◌^◌, ◌<◌, ◌≤◌, ◌∷◌, [], MatchOption, MatchResult, None, Some};
 ghost use Rattle.agglo_model.specs.Axes.{voxel_count};
 ghost use Rattle.agglo_model.specs.Cutting.{Chunking, IsChunking, artificial_faces, cell_length, cells_at, child, child_count, chunking, high_corner, last_level, leaf_of, level_grid, level_of, low_corner, node_count, parent, root, sizes_flaw};
 ghost use Rattle.chunk_tree.specs.Flaw.{flaw_of};
@@ -20,9 +20,9 @@ pub enum CutFault {
     TooManyLeaves(u64),
 }
 
-/// A volume that is cut into chunks, as a tree of at most 17 levels. The nodes of its lowest level are the
-/// leaves, at most 2^18, and those of each higher level have cells of twice the length on each axis; the
-/// last level is the first with one node, the root. Nodes are numbered level by level from the leaves,
+/// A volume that is cut into chunks, as a tree of at most 17 levels and fewer than 2^20 nodes. The nodes of its
+/// lowest level are the leaves, at most 2^18, and those of each higher level have cells of twice the length on
+/// each axis; the last level is the first with one node, the root. Nodes are numbered level by level from the leaves,
 /// and in each level x runs fastest, then y, then z.
 #[derive(Clone, Copy, Debug, PartialEq, Eq)]
 pub struct Cutting {
@@ -90,6 +90,7 @@ impl Cutting {
     /// How many levels there are.
     pub fn levels(&self) -> u32
         ensures value { result ≡ last_level self.now + 1 }
+        ensures most { result ≤ 17 }
         ensures cutting { IsChunking self.now }
     {
         self.last().number + 1
@@ -98,6 +99,7 @@ impl Cutting {
     /// How many nodes there are; their numbers are those below it.
     pub fn nodes(&self) -> u32
         ensures value { result ≡ node_count self.now }
+        ensures few { result < 2 ^ 20 }
         ensures cutting { IsChunking self.now }
     {
         self.last().first + 1

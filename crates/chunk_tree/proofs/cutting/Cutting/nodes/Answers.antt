@@ -13,3 +13,10 @@ overflow_add-result c = omega (
 pub returns-clause-value : goal.returns-clause-value
 returns-clause-value c =
     nodes_by_last c.args.self.now c.last.result c.last.ensures.cutting c.last.ensures.level c.last.ensures.number
+
+pub returns-clause-few : goal.returns-clause-few
+returns-clause-few c = omega (
+  arith,
+  node_count-lt c.args.self.now c.last.ensures.cutting,
+  nodes_by_last c.args.self.now c.last.result c.last.ensures.cutting c.last.ensures.level c.last.ensures.number,
+)
