@@ -15,7 +15,7 @@ use Rattle.volume_file.specs.declared.fault.VolumeFault.{VolumeFault}
 use Rattle.volume_file.specs.declared.fault.VolumeFault.TheVariants.{ShortHeader, Magic, Channels, Reserved, AxisZero, AxisLarge, TooMany, Truncated, Trailing, Read, Memory}
 use Rattle.volume_file.specs.Fault.{fault_of}
 use Rattle.volume_file.specs.Reading.{ReadsHead, FindsBadHead, FailsToReadHead, ReadsBody, FindsBadBody, FailsToReadBody}
-use Rattle.volume_file.proofs.States.{fails_later}
+use Rattle.seg_io.proofs.InputStates.{fails_later}
 use Rattle.volume_file.proofs.Whole.{reads_volume as whole_volume}
 use Rattle.refusals.specs.declared.refusal.Refusal.{Refusal}
 use Rattle.refusals.specs.declared.refusal.Refusal.TheVariants.{Volume, Leaves}

@@ -129,7 +129,7 @@ told_flaw (Some flaw) fault e = ap (option_map Volume) e
 bad_volume : (name : List ℕ) (fault : VolumeFault) (s t u : DeskState) → OpensInput name s t → FindsBadVolume fault t u
     → OpensFile name (λ bytes. basins_refusal bytes ≡ Some (Volume fault)) s u
 bad_volume name fault s t u o f = opens_file name _ s t u _ o
-    (if_some t.input _ _ (λ bytes e. told_flaw (volume_flaw bytes) fault e) f.flaw) f.after.after
+    (if_some t.input _ _ (λ bytes e. told_flaw (volume_flaw bytes) fault e) f.flaw) f.after
 
 pub no_volume : (name : List ℕ) (fault : VolumeFault) (s t u : DeskState) → OpensInput name s t → FailsToReadVolume fault t u
     → RefusesInput basins_refusal name (volume_refusal fault) s u

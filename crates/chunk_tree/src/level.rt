@@ -45,8 +45,8 @@ pub(crate) fn span(place: u32, length: u32, axis: u32) -> (u32, u32)
     (low, high)
 }
 
-/// A bit that is set or not.
-pub(crate) fn bit(is_set: bool, value: u8) -> u8
+/// The value of a bit that is set, and else 0.
+pub fn bit(is_set: bool, value: u8) -> u8
     ensures { result ≡ (if is_set then value else 0) }
 {
     if is_set { value } else { 0 }

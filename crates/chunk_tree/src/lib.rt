@@ -12,3 +12,4 @@ mod tests;
 
 pub use cutting::{CutFault, Cutting};
 pub use kids::Kids;
+pub use level::bit;

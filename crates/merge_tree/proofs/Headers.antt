@@ -18,7 +18,7 @@ use Rattle.merge_tree.specs.declared.tree_fault.TreeFault.TheVariants.{ShortHead
 use Rattle.merge_tree.specs.TreeFault.{fault_of, axes_fault}
 use Rattle.merge_tree.specs.TreeReading.{Tells}
 use Rattle.merge_tree.specs.TreeHead.{SaysHead, ReadsHead, FindsBadHead, FailsToReadHead}
-use Rattle.merge_tree.proofs.InputStates.{taken-min}
+use Rattle.seg_io.proofs.InputStates.{taken-min}
 
 -- the axes that were read
 pub axes_read : (bytes : List ℕ) (nx ny nz : ℕ) → nx ≡ u32_at 8 bytes → ny ≡ u32_at 12 bytes → nz ≡ u32_at 16 bytes

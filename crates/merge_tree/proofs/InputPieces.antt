@@ -7,7 +7,7 @@ use Rattle.seg_io.proofs.States.{for_some, taken-none, taken-taken}
 use Rattle.merge_tree.specs.declared.tree_fault.InputFault.{InputFault}
 use Rattle.merge_tree.specs.declared.tree_fault.InputFault.TheVariants.{Read, Memory}
 use Rattle.merge_tree.specs.TreeReading.{FailsToRead, AppendsPiece}
-use Rattle.merge_tree.proofs.InputStates.{fails_later}
+use Rattle.seg_io.proofs.InputStates.{fails_later}
 
 -- what was read so far is what was taken off the input
 pub record HasRead (bytes : List ℕ) (old now : DeskState) : Type 0 where

@@ -4,7 +4,6 @@ mod Ranks
 pub mod FinalNames
 mod Records
 mod Judged
-mod InputStates
 mod InputPieces
 mod Headers
 mod WholeTrees

@@ -1,5 +1,5 @@
 -- A whole tree file: its header, then its records.
-use Rattle.std.proofs.Common.{◌≡◌, ◌≢◌, ℕ, ◌+◌, ◌*◌, ◌<◌, ◌≤◌, true, List, [], length, take, drop, min, Option, Some, None, IfSome, refl, sym, ap, ◌∙◌, subst, arith, length-take}
+use Rattle.std.proofs.Common.{◌≡◌, ◌≢◌, ℕ, ◌+◌, ◌*◌, ◌<◌, ◌≤◌, true, List, [], length, take, drop, min, Option, Some, None, IfSome, sym, ap, ◌∙◌, subst, arith, length-take}
 use Rattle.std.specs.Option.{option_map, option_or}
 use Rattle.std.proofs.lemmas.List.{take_all}
 use Rattle.agglo_model.specs.Axes.{Axes}
@@ -9,15 +9,15 @@ use Rattle.agglo_model.specs.TreeFile.{MergeTree, TreeFlaw, header, header_thres
 use Rattle.agglo_model.proofs.TreeBodies.{short_body, long_body, whole_body, cut_body, whole_length}
 use Rattle.seg_io.specs.Desk.{DeskState, taken}
 use Rattle.seg_io.proofs.States.{taken-taken}
+use Rattle.seg_io.proofs.InputStates.{taken-all, emptied_later, takes_more, fails_later}
 use Rattle.merge_tree.specs.declared.tree_records.Head.{Head}
 use Rattle.merge_tree.specs.declared.tree_fault.TreeFault.{TreeFault}
 use Rattle.merge_tree.specs.declared.tree_fault.TreeFault.TheVariants.{Truncated, Trailing, Read, Memory}
 use Rattle.merge_tree.specs.declared.tree_fault.InputFault.{InputFault}
 use Rattle.merge_tree.specs.declared.tree_fault.InputFault.TheVariants.{Read as InputRead, Memory as InputMemory}
 use Rattle.merge_tree.specs.TreeFault.{fault_of, told}
-use Rattle.merge_tree.specs.TreeReading.{Tells, emptied, ReadsTree, FailsToReadTree, ReadsUpTo, FailsToRead}
+use Rattle.merge_tree.specs.TreeReading.{Tells, ReadsTree, FailsToReadTree, ReadsUpTo, FailsToRead}
 use Rattle.merge_tree.specs.TreeHead.{SaysHead, ReadsHead, FailsToReadHead}
-use Rattle.merge_tree.proofs.InputStates.{taken-all, fails_later}
 use Rattle.merge_tree.proofs.Headers.{never_tells_read}
 use Rattle.merge_tree.proofs.Judged.{told_first}
 
@@ -59,10 +59,7 @@ open_after head old now h open_before = ap (λ (s : DeskState). s.has_input) h.a
 pub no_rest : (head : Head) (fault : InputFault) (old now new : DeskState) → ReadsHead head old now → FailsToRead fault now new
     → FailsToReadTree (told fault) old new
 no_rest head InputRead old now new h f = fails_later header_length old now new h.after f
-no_rest head InputMemory old now new h f = record {
-  count = header_length + f.count;
-  after = f.after ∙ (ap (taken f.count) h.after ∙ taken-taken header_length f.count old);
-}
+no_rest head InputMemory old now new h f = takes_more header_length old now new h.after f
 
 -- what is left of the input after the header
 rest_of : (old now : DeskState) (P : List ℕ → Type 0) → now ≡ taken header_length old → IfSome now.input P
@@ -101,14 +98,6 @@ says_after (Some input) head most bytes tree e size made says read =
 rest_is_short : (o : Option (List ℕ)) (n most : ℕ) (bytes : List ℕ) → most ≡ n + 1 → length bytes ≡ n
     → IfSome o (λ rest. bytes ≡ take most rest) → IfSome o (λ rest. length rest ≤ most)
 rest_is_short o n most bytes e size h = if_some o _ _ (λ rest read. (all_read rest bytes n most e size read).1) h
-
-nothing_left : (o : Option (List ℕ)) (n : ℕ) → option_map {U = List ℕ} (λ _. []) (option_map (drop n) o) ≡ option_map {U = List ℕ} (λ _. []) o
-nothing_left None n = refl
-nothing_left (Some bytes) n = refl
-
--- what is emptied later is emptied
-emptied_later : (old now : DeskState) (n : ℕ) → now ≡ taken n old → emptied now ≡ emptied old
-emptied_later old now n e = ap emptied e ∙ ap (λ (o : Option (List ℕ)). record old { input = o }) (nothing_left old.input n)
 
 -- a whole file was read
 pub reads_tree : (head : Head) (most : ℕ) (bytes : List ℕ) (tree : MergeTree) (old now new : DeskState) → most ≡ record_length * head.merges + 1

@@ -1,23 +1,14 @@
 -- What the calls that read a tree file take off a desk's input, and what they answer. A desk may tell its
 -- input or not; what is said of the bytes is said where it does.
-use Rattle.std.specs.Prelude.{◌≡◌, ℕ, ◌+◌, ◌≤◌, List, [], ◌++◌, length, take, min, Option, Some, None, IfSome}
+use Rattle.std.specs.Prelude.{◌≡◌, ℕ, ◌+◌, ◌≤◌, List, ◌++◌, length, take, min, Option, Some, None, IfSome}
 use Rattle.std.specs.Option.{option_map}
 use Rattle.agglo_model.specs.TreeFile.{MergeTree, TreeFlaw, tree_flaw, tree_in}
-use Rattle.seg_io.specs.Desk.{DeskState, taken, FailsAfterReading}
+use Rattle.seg_io.specs.Desk.{DeskState, taken, emptied, TakesSome, FailsAfterReading}
 use Rattle.merge_tree.specs.declared.tree_fault.TreeFault.{TreeFault}
 use Rattle.merge_tree.specs.declared.tree_fault.TreeFault.TheVariants.{Read, Memory}
 use Rattle.merge_tree.specs.declared.tree_fault.InputFault.{InputFault}
 use Rattle.merge_tree.specs.declared.tree_fault.InputFault.TheVariants.{Read as InputRead, Memory as InputMemory}
 use Rattle.merge_tree.specs.TreeFault.{fault_of}
-
--- some bytes were taken off the input, and nothing else happened
-pub record TakesSome (old new : DeskState) : Type 0 where
-  pub count : ℕ
-  pub after : new ≡ taken count old
-
--- the state with nothing left of the input
-abbrev pub emptied : DeskState → DeskState
-emptied s = record s { input = option_map (λ _. []) s.input }
 
 -- The input left was a whole tree file, of this tree. Nothing is left of it.
 pub record ReadsTree (tree : MergeTree) (old new : DeskState) : Type 0 where

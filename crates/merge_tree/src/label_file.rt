@@ -7,10 +7,7 @@ ghost use Rattle.seg_io.specs.Piecing.{Puts, FailsToPut};
 
 use byteorder::{ByteOrder, LittleEndian};
 use seg_base::{Dims, Labels};
-use seg_io::{Desk, Failed, Piecer, Port};
-
-/// The length of a header in bytes.
-const HEADER_LENGTH: usize = 32;
+use seg_io::{Desk, Failed, HEADER_LENGTH, Piecer, Port};
 
 /// How many labels are turned into bytes at a time.
 const BLOCK_LABELS: usize = 4096;

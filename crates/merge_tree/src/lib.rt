@@ -7,7 +7,6 @@
 
 mod label_file;
 mod merge;
-mod numbers;
 mod order;
 mod renaming;
 #[cfg(test)]

@@ -8,10 +8,7 @@ ghost use Rattle.seg_io.specs.Piecing.{Puts, FailsToPut};
 use crate::merge::Merge;
 use crate::tree::Tree;
 use byteorder::{ByteOrder, LittleEndian};
-use seg_io::{Desk, Failed, Piecer, Port};
-
-/// The length of a header in bytes.
-const HEADER_LENGTH: usize = 32;
+use seg_io::{Desk, Failed, HEADER_LENGTH, Piecer, Port};
 
 /// The length of a merge's record in bytes.
 const RECORD_LENGTH: usize = 32;

@@ -5,21 +5,17 @@ ghost use Rattle.merge_tree.specs.TreeReading.{ReadsTree, FailsToReadTree, Tells
 ghost use Rattle.merge_tree.specs.TreeHead.{ReadsHead, FailsToReadHead, SaysHead};
 ghost use Rattle.merge_tree.specs.declared.tree_fault.TreeFault.TheVariants.{Memory as WantOfMemory};
 
-use crate::numbers::short_at;
 use crate::tree::Tree;
 use crate::tree_fault::TreeFault;
 use crate::tree_input::read_up_to;
 use crate::tree_records::{Head, RECORD_LENGTH, lawful_merges};
 use mean_fraction::Threshold;
 use seg_base::Dims;
-use seg_io::{Desk, fill};
+use seg_io::{Desk, HEADER_LENGTH, fill, u32_at};
 use std::alloc::Global;
 
 /// The text that a tree file begins with.
 const MAGIC: &[u8] = b"AFFTRE01";
-
-/// The length of a header in bytes.
-const HEADER_LENGTH: usize = 32;
 
 /// Reads a tree file to its end: the header, then the records. Answers the first fault of the file,
 /// `Read` or `Memory`.
@@ -63,15 +59,11 @@ fn head_of(header: &[u8]) -> Result<Head, TreeFault>
     if !header.starts_with(MAGIC) {
         return Err(TreeFault::Magic);
     }
-    let dims = Dims::new(
-        short_at(header, 8),
-        short_at(header, 12),
-        short_at(header, 16),
-    )?;
-    let Ok(threshold) = Threshold::new(short_at(header, 20), short_at(header, 24)) else {
+    let dims = Dims::new(u32_at(header, 8), u32_at(header, 12), u32_at(header, 16))?;
+    let Ok(threshold) = Threshold::new(u32_at(header, 20), u32_at(header, 24)) else {
         return Err(TreeFault::Denominator);
     };
-    let merges = short_at(header, 28);
+    let merges = u32_at(header, 28);
     if merges >= dims.voxels() {
         return Err(TreeFault::Count(merges));
     }

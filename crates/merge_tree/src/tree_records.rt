@@ -6,10 +6,10 @@ ghost use Rattle.merge_tree.specs.TreeRecords.{AreMarked, has_unmarked_names};
 ghost use Rattle.merge_tree.specs.declared.tree_fault.TreeFault.TheVariants.{Memory as WantOfMemory};
 
 use crate::merge::Merge;
-use crate::numbers::{long_at, short_at};
 use crate::tree_fault::TreeFault;
 use mean_fraction::{Contact, Threshold, rank};
 use seg_base::Dims;
+use seg_io::{u32_at, u64_at};
 use std::alloc::Global;
 use std::cmp::Ordering;
 use std::marker::Model;
@@ -73,11 +73,11 @@ fn record_at(body: &[u8], at: usize) -> RawMerge
     ensures { result ≡ merge_at at body.now }
 {
     RawMerge {
-        survivor: short_at(body, at),
-        absorbed: short_at(body, at + 4),
-        sum: long_at(body, at + 8),
-        count: long_at(body, at + 16),
-        tie: long_at(body, at + 24),
+        survivor: u32_at(body, at),
+        absorbed: u32_at(body, at + 4),
+        sum: u64_at(body, at + 8),
+        count: u64_at(body, at + 16),
+        tie: u64_at(body, at + 24),
     }
 }
 

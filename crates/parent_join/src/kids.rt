@@ -1,11 +1,11 @@
-ghost use Rattle.std.specs.Prelude.{◌≡◌, ◌<◌, ◌++◌, All, IfOk, if◌then◌else◌, length, map};
+ghost use Rattle.std.specs.Prelude.{◌≡◌, ◌<◌, ◌++◌, All, IfOk, length, map};
 ghost use Rattle.agglo_model.specs.Cutting.{child_count, node_count};
 ghost use Rattle.agglo_model.specs.Joining.{kept_edges, kept_faces, kept_regions};
 ghost use Rattle.agglo_model.specs.RegionGraph.{IsGraph};
 ghost use Rattle.parent_join.specs.Kids.{graphs_of, shared_faces, with_faces_in};
 
 use agglo_model::Memory;
-use chunk_tree::{Cutting, Kids};
+use chunk_tree::{Cutting, Kids, bit};
 use region_graph::{Parts, Region, Residue, Site};
 use seg_base::Cell;
 use std::alloc::Global;
@@ -80,11 +80,4 @@ fn faces_shared(cell: &Cell, outer: &Cell) -> u8
         + bit(cell.hi[1] == outer.hi[1], 8)
         + bit(cell.lo[2] == outer.lo[2], 16)
         + bit(cell.hi[2] == outer.hi[2], 32)
-}
-
-/// A bit that is set or not.
-fn bit(is_set: bool, value: u8) -> u8
-    ensures { result ≡ (if is_set then value else 0) }
-{
-    if is_set { value } else { 0 }
 }

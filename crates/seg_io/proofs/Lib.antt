@@ -1,4 +1,5 @@
 pub mod States
+pub mod InputStates
 pub mod Piecing
 mod Filling
 mod Writing

@@ -100,6 +100,15 @@ appended port bytes s = with_written port (option_map (λ written. written ++ by
 abbrev pub taken : ℕ → DeskState → DeskState
 taken k s = record s { input = option_map (drop k) s.input }
 
+-- the state with nothing left of the input
+abbrev pub emptied : DeskState → DeskState
+emptied s = record s { input = option_map (λ _. []) s.input }
+
+-- some bytes were taken off the input, and nothing else happened
+pub record TakesSome (old new : DeskState) : Type 0 where
+  pub count : ℕ
+  pub after : new ≡ taken count old
+
 -- An input was opened: the file of that name, where files are told.
 pub record OpensInput (name : List ℕ) (old new : DeskState) : Type 0 where
   pub found : IfSome old.files (λ files. IsSome (file_named files name))

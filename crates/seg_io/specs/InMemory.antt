@@ -186,9 +186,6 @@ CannotRead m = is_due m.reading ≡ true
 abbrev pub CannotOpenOutput : List ℕ → MemoryState → Type 0
 CannotOpenOutput name m = (is_due m.opening_out ≡ true) ⊎ (m.opened.room < length name)
 
-abbrev pub CannotWrite : Port → MemoryState → Type 0
-CannotWrite port m = IsRefused (output_at port m.outputs)
-
 -- Each call, done and failed. A call that fails raises its count by one, or leaves it at its last value.
 pub record OpensInputExactly (name : List ℕ) (old new : MemoryState) : Type 0 where
   pub allowed : ¬ (CannotOpenInput name old)

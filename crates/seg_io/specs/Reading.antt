@@ -4,10 +4,12 @@ use Rattle.seg_io.specs.Desk.{File}
 use Rattle.seg_io.specs.InMemory.{bytes_at}
 use Rattle.seg_io.specs.declared.input_files.Cursor.{Cursor}
 
+-- whether an input is open
 abbrev pub is_open : Option Cursor → Bool
 is_open None = false
 is_open (Some cursor) = true
 
+-- the bytes of its file from the place on, and none where no input is open
 abbrev pub left_of : List File → Option Cursor → List ℕ
 left_of files None = []
 left_of files (Some cursor) = drop cursor.at (bytes_at cursor.file files)

@@ -1,12 +1,13 @@
 //! The outside as a trait, `Desk`: the calls by which the program opens, reads and writes, and how
 //! each may fail. Above it the calls that go on until a piece is whole (`fill`, `put_all`,
-//! `Piecer`), and below it a desk in memory.
+//! `Piecer`) and the numbers in files, and below it a desk in memory.
 //!
 //! It stands on agglo_model alone; the readers and writers of files and the program stand on it.
 #![tactic(auto)]
 
 mod call_count;
 mod desk;
+mod header;
 mod input_files;
 mod memory_desk;
 mod opened_ports;
@@ -16,6 +17,7 @@ mod pieces;
 mod port;
 
 pub use desk::{Desk, Failed};
+pub use header::{HEADER_LENGTH, u32_at, u64_at};
 pub use memory_desk::{CallKind, MemoryDesk, Side};
 pub use piecer::Piecer;
 pub use pieces::{PIECE_LENGTH, fill, put_all};

@@ -14,7 +14,7 @@ use Rattle.volume_file.specs.declared.fault.VolumeFault.TheVariants.{ShortHeader
 use Rattle.volume_file.specs.Fault.{fault_of}
 use Rattle.volume_file.specs.Reading.{ReadsBody, FindsBadBody, FailsToReadBody}
 use Rattle.volume_file.specs.Pieces.{ReadsBytes, FindsTooFew, FailsToReadBytes, AppendsPiece, FailsToAppend, FindsMore}
-use Rattle.volume_file.proofs.States.{taken-min, taken-all, fails_later}
+use Rattle.seg_io.proofs.InputStates.{taken-min, taken-all, fails_later}
 
 -- a piece by what it was filled with
 piece_front : (o : Option (List ℕ)) (got : ℕ) (piece before line : List ℕ) → IfSome o (λ bytes. take got piece ≡ take got bytes)

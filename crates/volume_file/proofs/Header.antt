@@ -13,7 +13,7 @@ use Rattle.seg_io.specs.Desk.{DeskState, Fills}
 use Rattle.volume_file.specs.declared.fault.VolumeFault.{VolumeFault}
 use Rattle.volume_file.specs.Fault.{fault_of}
 use Rattle.volume_file.specs.Reading.{ReadsHead, FindsBadHead, FailsToReadHead}
-use Rattle.volume_file.proofs.States.{taken-min}
+use Rattle.seg_io.proofs.InputStates.{taken-min}
 
 -- numbers add up to 0 exactly where each of them is 0
 pub all_zero : (xs : List ℕ) → list_all (λ x. x == 0) xs ≡ (sum xs == 0)

@@ -71,15 +71,13 @@ unfolding lanes_from
 lane_at first e i below = get_or-map-range_with_len (λ f. number_after first (f + 1)) e 32 i (e + i) 0 below refl
 
 -- a lane more, where those before are set
-pub lane_set : (first i j : ℕ) (lanes : List ℕ) (number : ℕ) → i < length lanes → number ≡ number_after first (i + 1)
-    → (j < i → get_or lanes j 0 ≡ number_after first (0 + j + 1)) → j < i + 1
-    → get_or (set lanes i number) j 0 ≡ number_after first (0 + j + 1)
-lane_set first i j lanes number inside is before below = elim (cases_lt j i) [
+pub lane_set : (f : ℕ → ℕ) (i j : ℕ) (lanes : List ℕ) (number : ℕ) → i < length lanes → number ≡ f i
+    → (j < i → get_or lanes j 0 ≡ f j) → j < i + 1 → get_or (set lanes i number) j 0 ≡ f j
+lane_set f i j lanes number inside is before below = elim (cases_lt j i) [
   | inl less ↦ get_or-set_other lanes i j number 0 (omega (arith, less)) ∙ before less
   | inr last ↦
       let same : j ≡ i = omega (arith, last, below) in
-      let place : i + 1 ≡ 0 + j + 1 = omega (arith, same) in
-      ap (λ k. get_or (set lanes i number) k 0) same ∙ get_or-set_same lanes i number 0 inside ∙ is ∙ ap (number_after first) place
+      ap (λ k. get_or (set lanes i number) k 0) same ∙ get_or-set_same lanes i number 0 inside ∙ is ∙ ap f (sym same)
 ]
 
 -- the highest byte of each lane

@@ -1,4 +1,3 @@
-pub mod States
 pub mod Header
 pub mod BodyPieces
 pub mod Whole

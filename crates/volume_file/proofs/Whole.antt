@@ -1,5 +1,5 @@
 -- A whole volume file: its header, then its body.
-use Rattle.std.proofs.Common.{◌≡◌, ℕ, ◌+◌, true, List, [], drop, Option, Some, None, IfSome, refl, sym, ap, ◌∙◌, subst}
+use Rattle.std.proofs.Common.{◌≡◌, ℕ, ◌+◌, true, List, drop, Option, Some, None, IfSome, is_some, if◌then◌else◌, refl, sym, ap, ◌∙◌, subst}
 use Rattle.std.specs.Option.{option_map}
 use Rattle.agglo_model.specs.Axes.{Axes, edge_count}
 use Rattle.agglo_model.specs.Grid.{Grid}
@@ -9,8 +9,8 @@ use Rattle.seg_io.proofs.States.{taken-taken}
 use Rattle.volume_file.specs.declared.fault.VolumeFault.{VolumeFault}
 use Rattle.volume_file.specs.declared.fault.VolumeFault.TheVariants.{ShortHeader, Magic, Channels, Reserved, AxisZero, AxisLarge, TooMany, Truncated, Trailing, Read, Memory}
 use Rattle.volume_file.specs.Fault.{fault_of}
-use Rattle.volume_file.specs.Reading.{TakesSome, emptied, ReadsHead, FindsBadHead, FailsToReadHead, ReadsBody, FindsBadBody, FailsToReadBody, ReadsVolume, FindsBadVolume, FailsToReadVolume}
-use Rattle.volume_file.proofs.States.{fails_later}
+use Rattle.volume_file.specs.Reading.{ReadsHead, FindsBadHead, FailsToReadHead, ReadsBody, FindsBadBody, FailsToReadBody, judged_length, ReadsVolume, FindsBadVolume, FailsToReadVolume}
+use Rattle.seg_io.proofs.InputStates.{emptied_later, takes_more, fails_later}
 
 -- the header's flaw comes first
 head_first : (o later : Option VolumeFlaw) (fault : VolumeFault) → option_map fault_of o ≡ Some fault
@@ -18,15 +18,28 @@ head_first : (o later : Option VolumeFlaw) (fault : VolumeFault) → option_map 
 head_first None later fault e = absurd (cc)
 head_first (Some flaw) later fault e = e
 
+told_head : (o : Option VolumeFlaw) (n : ℕ) (fault : VolumeFault) → option_map fault_of o ≡ Some fault
+    → (if is_some o then 32 else n) ≡ 32
+told_head None n fault e = absurd (cc)
+told_head (Some flaw) n fault e = refl
+
 head_flaw : (o : Option (List ℕ)) (fault : VolumeFault) → IfSome o (λ bytes. option_map fault_of (header_flaw bytes) ≡ Some fault)
     → IfSome o (λ bytes. option_map fault_of (volume_flaw bytes) ≡ Some fault)
 head_flaw None fault flaw = tt
 head_flaw (Some bytes) fault flaw = head_first (header_flaw bytes) (body_flaw (header_axes bytes) (body bytes)) fault flaw
 
+-- of a file whose header has a flaw the header is read
+judged_head : (o : Option (List ℕ)) (fault : VolumeFault) → IfSome o (λ bytes. option_map fault_of (header_flaw bytes) ≡ Some fault)
+    → IfSome o (λ bytes. 32 ≡ judged_length bytes)
+judged_head None fault flaw = tt
+judged_head (Some bytes) fault flaw = sym (told_head (header_flaw bytes) (32 + (edge_count (header_axes bytes) + 1)) fault flaw)
+
 bad_volume : (fault : VolumeFault) (old new : DeskState) → FindsBadHead fault old new → FindsBadVolume fault old new
 bad_volume fault old new f = record {
   flaw = head_flaw old.input fault f.flaw;
-  after = record { count = 32; after = f.after };
+  count = 32;
+  judged = judged_head old.input fault f.flaw;
+  after = f.after;
 }
 
 -- the header was not read
@@ -75,28 +88,22 @@ says_after (Some bytes) a volume same says body_is =
     let axes : volume.axes ≡ header_axes bytes = same ∙ says in
     λ i. record { axes = axes i; bytes = body_is i }
 
-nothing_left : (o : Option (List ℕ)) (n : ℕ)
-    → option_map {U = List ℕ} (λ _. []) (option_map (drop n) o) ≡ option_map {U = List ℕ} (λ _. []) o
-nothing_left None n = refl
-nothing_left (Some bytes) n = refl
-
--- what is emptied later is emptied
-emptied_later : (old now : DeskState) (n : ℕ) → now ≡ taken n old → emptied now ≡ emptied old
-emptied_later old now n e = ap emptied e ∙ ap (λ (o : Option (List ℕ)). record old { input = o }) (nothing_left old.input n)
-
--- some was taken, and then some more
-takes_more : (n : ℕ) (old now new : DeskState) → now ≡ taken n old → TakesSome now new → TakesSome old new
-takes_more n old now new e t = record {
-  count = n + t.count;
-  after = t.after ∙ (ap (taken t.count) e ∙ taken-taken n t.count old);
-}
+-- of a file whose header is sound the body is read, and one byte more
+judged_after : (o : Option (List ℕ)) (a : Axes) → IfSome o (λ bytes. header_flaw bytes ≡ None)
+    → IfSome o (λ bytes. a ≡ header_axes bytes) → IfSome o (λ bytes. 32 + (edge_count a + 1) ≡ judged_length bytes)
+judged_after None a sound says = tt
+judged_after (Some bytes) a sound says =
+    ap (λ (x : Axes). 32 + (edge_count x + 1)) says
+    ∙ sym (ap (λ (o : Option VolumeFlaw). if is_some o then 32 else (32 + (edge_count (header_axes bytes) + 1))) sound)
 
 bad_after : (a : Axes) (fault : VolumeFault) (old now new : DeskState) → ReadsHead a old now → FindsBadBody a fault now new
     → FindsBadVolume fault old new
 bad_after a fault old now new h f = record {
   flaw = flaw_after old.input a (Some fault) h.sound h.says
       (body_left old now (λ bytes. option_map fault_of (body_flaw a bytes) ≡ Some fault) h.after f.flaw);
-  after = takes_more 32 old now new h.after record { count = edge_count a + 1; after = f.after };
+  count = 32 + (edge_count a + 1);
+  judged = judged_after old.input a h.sound h.says;
+  after = f.after ∙ (ap (taken (edge_count a + 1)) h.after ∙ taken-taken 32 (edge_count a + 1) old);
 }
 
 -- the header was read, and the body was not

@@ -4,11 +4,13 @@ use Rattle.agglo_model.specs.VolumeFile.{VolumeFlaw, BadAxes, ShortHeader as Fla
 use Rattle.volume_file.specs.declared.fault.VolumeFault.{VolumeFault}
 use Rattle.volume_file.specs.declared.fault.VolumeFault.TheVariants.{ShortHeader, Magic, Channels, Reserved, AxisZero, AxisLarge, TooMany, Truncated, Trailing}
 
+-- of a flaw of the axes
 abbrev pub axes_fault : AxesFlaw → VolumeFault
 axes_fault (FlawZero axis) = AxisZero axis
 axes_fault (FlawLarge axis) = AxisLarge axis
 axes_fault FlawTooMany = TooMany
 
+-- of a flaw of the file
 abbrev pub fault_of : VolumeFlaw → VolumeFault
 fault_of (FlawShort got) = ShortHeader got
 fault_of FlawMagic = Magic

@@ -1,9 +1,8 @@
 -- What the steps of reading a body do.
 use Rattle.std.specs.Prelude.{◌≡◌, ℕ, ◌+◌, ◌<◌, ◌≤◌, nat_lt, Bool, List, ◌++◌, length, take, min, IfSome}
-use Rattle.seg_io.specs.Desk.{DeskState, taken, FailsAfterReading}
+use Rattle.seg_io.specs.Desk.{DeskState, taken, TakesSome, FailsAfterReading}
 use Rattle.volume_file.specs.declared.fault.VolumeFault.{VolumeFault}
 use Rattle.volume_file.specs.declared.fault.VolumeFault.TheVariants.{Truncated, Read, Memory}
-use Rattle.volume_file.specs.Reading.{TakesSome}
 
 -- The first n bytes of the input were read, and taken off.
 pub record ReadsBytes (n : ℕ) (bytes : List ℕ) (old new : DeskState) : Type 0 where
@@ -18,6 +17,7 @@ pub record FindsTooFew (n got : ℕ) (old new : DeskState) : Type 0 where
   pub all : IfSome old.input (λ input. got ≡ length input)
   pub after : new ≡ taken n old
 
+-- n bytes were not read: there were fewer, a read failed, or there was no memory
 abbrev pub FailsToReadBytes : ℕ → VolumeFault → DeskState → DeskState → Type 0
 FailsToReadBytes n (Truncated got) old new = FindsTooFew n got old new
 FailsToReadBytes n Read old new = FailsAfterReading old new
@@ -33,6 +33,7 @@ pub record AppendsPiece (got count : ℕ) (before after : List ℕ) (old new : D
   pub all : IfSome old.input (λ input. got ≡ min count (length input))
   pub moved : new ≡ taken got old
 
+-- nothing was appended: a read failed, or there was no memory, and then nothing was read
 abbrev pub FailsToAppend : VolumeFault → DeskState → DeskState → Type 0
 FailsToAppend Read old new = FailsAfterReading old new
 FailsToAppend Memory old new = new ≡ old

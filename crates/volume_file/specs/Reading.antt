@@ -1,23 +1,14 @@
 -- What the calls that read a volume take off a desk's input, and what they answer. A desk may tell its
 -- input or not; what is said of the bytes is said where it does.
-use Rattle.std.specs.Prelude.{◌≡◌, ℕ, ◌+◌, [], Some, None, IfSome}
+use Rattle.std.specs.Prelude.{◌≡◌, ℕ, ◌+◌, List, Some, None, IfSome, is_some, if◌then◌else◌}
 use Rattle.std.specs.Option.{option_map}
 use Rattle.agglo_model.specs.Axes.{Axes, edge_count}
 use Rattle.agglo_model.specs.Grid.{Grid}
 use Rattle.agglo_model.specs.VolumeFile.{header_length, header_axes, header_flaw, body_flaw, volume_flaw, volume_in}
-use Rattle.seg_io.specs.Desk.{DeskState, taken, FailsAfterReading}
+use Rattle.seg_io.specs.Desk.{DeskState, taken, emptied, TakesSome, FailsAfterReading}
 use Rattle.volume_file.specs.declared.fault.VolumeFault.{VolumeFault}
 use Rattle.volume_file.specs.declared.fault.VolumeFault.TheVariants.{Truncated, Trailing, Read, Memory}
 use Rattle.volume_file.specs.Fault.{fault_of}
-
--- some bytes were taken off the input, and nothing else happened
-pub record TakesSome (old new : DeskState) : Type 0 where
-  pub count : ℕ
-  pub after : new ≡ taken count old
-
--- the state with nothing left of the input
-abbrev pub emptied : DeskState → DeskState
-emptied s = record s { input = option_map (λ _. []) s.input }
 
 -- The input left begins with a sound header for these axes. It was taken off.
 pub record ReadsHead (axes : Axes) (old new : DeskState) : Type 0 where
@@ -65,10 +56,16 @@ pub record ReadsVolume (volume : Grid) (old new : DeskState) : Type 0 where
   pub says : IfSome old.input (λ bytes. volume ≡ volume_in bytes)
   pub after : new ≡ emptied old
 
--- The input left has a flaw that this fault tells of. Some of it was taken off.
+-- how much is read of a file with a flaw: the header, if the flaw is there, or the body and one byte more
+abbrev pub judged_length : List ℕ → ℕ
+judged_length bytes = if is_some (header_flaw bytes) then header_length else (header_length + (edge_count (header_axes bytes) + 1))
+
+-- The input left has a flaw that this fault tells of. What was read of it was taken off.
 pub record FindsBadVolume (fault : VolumeFault) (old new : DeskState) : Type 0 where
   pub flaw : IfSome old.input (λ bytes. option_map fault_of (volume_flaw bytes) ≡ Some fault)
-  pub after : TakesSome old new
+  pub count : ℕ
+  pub judged : IfSome old.input (λ bytes. count ≡ judged_length bytes)
+  pub after : new ≡ taken count old
 
 -- no volume was read
 abbrev pub FailsToReadVolume : VolumeFault → DeskState → DeskState → Type 0

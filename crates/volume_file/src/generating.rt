@@ -62,19 +62,22 @@ fn next_lanes(lanes: [u32; LANES], leap: Leap) -> [u32; LANES]
     requires { LeapsOver 32 leap }
     ensures { (first e : ℕ) → lanes ≡ lanes_from first e → result ≡ lanes_from first (e + 32) }
 {
-    lanes.map(
-        |number: u32| -> u32
-            requires { LeapsOver 32 leap }
-            ensures { result ≡ number_after number 32 }
-        { leap.from(number) },
-    )
+    let mut later = [0; LANES];
+    for i in 0..LANES {
+        later[i] = leap.from(lanes[i]);
+    }
+    later
 }
 
 /// The highest eight bits of each number.
 fn highest_bytes(lanes: &[u32; LANES]) -> [u8; LANES]
     ensures { result ≡ map (λ number. number / 2 ^ 24) lanes.now }
 {
-    lanes.map(|number| (number >> 24) as u8)
+    let mut bytes = [0; LANES];
+    for i in 0..LANES {
+        bytes[i] = (lanes[i] >> 24) as u8;
+    }
+    bytes
 }
 
 /// A step over several numbers of the sequence at once.

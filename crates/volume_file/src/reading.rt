@@ -1,23 +1,19 @@
-ghost use Rattle.std.specs.Prelude.{◌≡◌, ◌==◌, ◌+◌, ◌≤◌, None, Some, true, length, MatchResult};
+ghost use Rattle.std.specs.Prelude.{◌≡◌, ◌==◌, ◌≤◌, None, Some, true, length, MatchResult};
 ghost use Rattle.std.specs.List.{list_all};
 ghost use Rattle.std.specs.Option.{option_map};
-ghost use Rattle.agglo_model.specs.VolumeFile.{u32_at, header_flaw, header_axes};
+ghost use Rattle.agglo_model.specs.VolumeFile.{header_flaw, header_axes};
 ghost use Rattle.volume_file.specs.Fault.{fault_of};
 ghost use Rattle.volume_file.specs.Reading.{ReadsHead, FailsToReadHead, ReadsVolume, FailsToReadVolume};
 
 use crate::body::read_body;
 use crate::fault::VolumeFault;
 use crate::volume::{Head, Volume};
-use byteorder::{ByteOrder, LittleEndian};
 use seg_base::Dims;
-use seg_io::{Desk, fill};
+use seg_io::{Desk, HEADER_LENGTH, fill, u32_at};
 use std::alloc::Global;
 
 /// The text that a volume file begins with.
 pub(crate) const MAGIC: &[u8] = b"AFFVOL01";
-
-/// How many bytes a header has.
-pub(crate) const HEADER_LENGTH: usize = 32;
 
 /// How many affinities each voxel has.
 pub(crate) const CHANNELS: u32 = 3;
@@ -62,18 +58,14 @@ fn head_of(header: &[u8]) -> Result<Head, VolumeFault>
     if !header.starts_with(MAGIC) {
         return Err(VolumeFault::Magic);
     }
-    let channels = number_at(header, 20);
+    let channels = u32_at(header, 20);
     if channels != CHANNELS {
         return Err(VolumeFault::Channels(channels));
     }
     if !are_zero(&header[24..32]) {
         return Err(VolumeFault::Reserved);
     }
-    let dims = Dims::new(
-        number_at(header, 8),
-        number_at(header, 12),
-        number_at(header, 16),
-    )?;
+    let dims = Dims::new(u32_at(header, 8), u32_at(header, 12), u32_at(header, 16))?;
     Ok(Head { dims, version: 1 })
 }
 
@@ -82,12 +74,4 @@ fn are_zero(bytes: &[u8]) -> bool
     ensures { result ≡ list_all (λ byte. byte == 0) bytes.now }
 {
     bytes.iter().all(|&byte| byte == 0)
-}
-
-/// The number in the four bytes from `offset`, the lowest byte first.
-fn number_at(header: &[u8], offset: usize) -> u32
-    requires { offset + 4 ≤ length header.now }
-    ensures { result ≡ u32_at offset header.now }
-{
-    LittleEndian::read_u32(&header[offset..])
 }

@@ -2,11 +2,11 @@ ghost use Rattle.std.specs.Prelude.{◌≡◌, MatchResult};
 ghost use Rattle.agglo_model.specs.VolumeFile.{volume_bytes, volume_header};
 ghost use Rattle.seg_io.specs.Desk.{IsOpen, appended, FailsAfterWriting};
 
-use crate::reading::{CHANNELS, HEADER_LENGTH, MAGIC};
+use crate::reading::{CHANNELS, MAGIC};
 use crate::volume::Volume;
 use byteorder::{ByteOrder, LittleEndian};
 use seg_base::Dims;
-use seg_io::{Desk, Failed, Piecer, Port};
+use seg_io::{Desk, Failed, HEADER_LENGTH, Piecer, Port};
 
 /// Writes the file of a volume at the end of the port: a header of 32 bytes, then the byte of each edge
 /// number. It takes no memory. Where a write fails, a prefix of the file was written.

@@ -1,5 +1,5 @@
 use Rattle.std.proofs.lemmas.Result.{err_from_is_err_and}
-use Rattle.volume_file.proofs.States.{fails_later}
+use Rattle.seg_io.proofs.InputStates.{fails_later}
 use Rattle.volume_file.proofs.BodyPieces.{no_body, trailing, reads_body}
 use Rattle.volume_file.proofs.body.read_body.Goals as goal
 

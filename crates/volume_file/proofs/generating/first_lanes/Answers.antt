@@ -1,6 +1,5 @@
-use Rattle.std.proofs.Common.{◌≡◌, ℕ, ◌+◌, ◌<◌, refl, sym, ap, length-set, ◌∙◌, arith, rules}
-use Rattle.std.proofs.lemmas.Bool.{cases_lt}
-use Rattle.agglo_model.specs.Generated.{next_number}
+use Rattle.std.proofs.Common.{◌≡◌, ◌+◌, refl, ap, length-set, ◌∙◌, arith}
+use Rattle.agglo_model.specs.Generated.{next_number, number_after}
 use Rattle.volume_file.proofs.Lanes.{after_none, next_after, lane_set, are_lanes}
 use Rattle.volume_file.proofs.generating.first_lanes.Goals as goal
 
@@ -13,8 +12,12 @@ loop-i-preserved c =
       length-set c.loop-i.lanes c.loop-i.i c.next_number-number.result ∙ c.loop-i.invariant.0,
       next,
       λ j below.
-          lane_set c.args.start c.loop-i.i j c.loop-i.lanes c.next_number-number.result (omega (arith, c.loop-i.invariant.0, c.loop-i-test.true)) next (c.loop-i.invariant.2 j) below,
+          lane_set (λ k. number_after c.args.start (k + 1)) c.loop-i.i j c.loop-i.lanes c.next_number-number.result
+          (omega (arith, c.loop-i.invariant.0, c.loop-i-test.true)) next (c.loop-i.invariant.2 j) below,
     )
 
 pub returns : goal.returns
-returns c = are_lanes c.args.start 0 c.loop-i.lanes c.loop-i.invariant.0 (λ i below. c.loop-i.invariant.2 i (omega (arith, below, c.loop-i-test.false)))
+returns c = are_lanes c.args.start 0 c.loop-i.lanes c.loop-i.invariant.0
+    (λ i below.
+    let place : i + 1 ≡ 0 + i + 1 = omega arith in
+    c.loop-i.invariant.2 i (omega (arith, below, c.loop-i-test.false)) ∙ ap (number_after c.args.start) place)

@@ -4,4 +4,4 @@ use Rattle.volume_file.proofs.generating.first_lanes.Given as goal
 
 abbrev pub invariant-loop-i : goal.invariant-loop-i
 invariant-loop-i l = (length l.lanes ≡ 32) × (l.number ≡ number_after l.start l.i)
-    × ((j : ℕ) → j < l.i → get_or l.lanes j 0 ≡ number_after l.start (0 + j + 1))
+    × ((j : ℕ) → j < l.i → get_or l.lanes j 0 ≡ number_after l.start (j + 1))

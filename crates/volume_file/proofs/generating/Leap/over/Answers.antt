@@ -1,4 +1,4 @@
-use Rattle.std.proofs.Common.{◌≡◌, ℕ, subst, arith}
+use Rattle.std.proofs.Common.{◌≡◌, subst, arith}
 use Rattle.volume_file.specs.Generating.{LeapsOver}
 use Rattle.volume_file.proofs.Lanes.{leap_none, leap_more}
 use Rattle.volume_file.proofs.generating.Leap.over.Goals as goal

@@ -4,8 +4,11 @@ ghost use Rattle.agglo_model.specs.VolumeFile.{u32_at};
 
 use byteorder::{ByteOrder, LittleEndian};
 
+/// How many bytes the header of a file has, whichever kind of file it is.
+pub const HEADER_LENGTH: usize = 32;
+
 /// The number in the four bytes from `offset`, the lowest byte first.
-pub fn short_at(bytes: &[u8], offset: usize) -> u32
+pub fn u32_at(bytes: &[u8], offset: usize) -> u32
     requires { offset + 4 ≤ length bytes.now }
     ensures { result ≡ u32_at offset bytes.now }
 {
@@ -13,7 +16,7 @@ pub fn short_at(bytes: &[u8], offset: usize) -> u32
 }
 
 /// The number in the eight bytes from `offset`, the lowest byte first.
-pub fn long_at(bytes: &[u8], offset: usize) -> u64
+pub fn u64_at(bytes: &[u8], offset: usize) -> u64
     requires { offset + 8 ≤ length bytes.now }
     ensures { result ≡ u64_at offset bytes.now }
 {

@@ -3,9 +3,8 @@ use Rattle.std.proofs.Common.{◌≡◌, ℕ, ◌+◌, ◌≤◌, List, [], leng
 use Rattle.std.specs.Option.{option_map}
 use Rattle.std.proofs.lemmas.List.{drop_min, drop_all}
 use Rattle.agglo_model.specs.Count.{Rose}
-use Rattle.seg_io.specs.Desk.{DeskState, taken, FailsAfterReading}
+use Rattle.seg_io.specs.Desk.{DeskState, taken, emptied, TakesSome, FailsAfterReading}
 use Rattle.seg_io.proofs.States.{taken-taken}
-use Rattle.volume_file.specs.Reading.{emptied}
 
 input_min : (o : Option (List ℕ)) (n k : ℕ) → IfSome o (λ bytes. k ≡ min n (length bytes))
     → option_map (drop k) o ≡ option_map (drop n) o
@@ -37,3 +36,19 @@ fails_later n old now new before fails =
           ∙ (ap (λ (s : DeskState). record (taken fails.read s) { input_faults = new.input_faults }) before
           ∙ ap (λ (s : DeskState). record s { input_faults = new.input_faults }) (taken-taken n fails.read old));
     }
+
+nothing_left : (o : Option (List ℕ)) (n : ℕ)
+    → option_map {U = List ℕ} (λ _. []) (option_map (drop n) o) ≡ option_map {U = List ℕ} (λ _. []) o
+nothing_left None n = refl
+nothing_left (Some bytes) n = refl
+
+-- what is emptied later is emptied
+pub emptied_later : (old now : DeskState) (n : ℕ) → now ≡ taken n old → emptied now ≡ emptied old
+emptied_later old now n e = ap emptied e ∙ ap (λ (o : Option (List ℕ)). record old { input = o }) (nothing_left old.input n)
+
+-- some was taken, and then some more
+pub takes_more : (n : ℕ) (old now new : DeskState) → now ≡ taken n old → TakesSome now new → TakesSome old new
+takes_more n old now new e t = record {
+  count = n + t.count;
+  after = t.after ∙ (ap (taken t.count) e ∙ taken-taken n t.count old);
+}
