@@ -101,7 +101,7 @@ fn place_by(regions: &[Region], guesses: &Guesses, name: u32) -> u32
 }
 
 /// The place of the region of this name.
-fn place_of(regions: &[Region], name: u32) -> u32
+pub fn place_of(regions: &[Region], name: u32) -> u32
     requires ascend { Ascend regions.now }
     requires there { HasRegion (record { regions = regions.now; edges = [] }) name }
     ensures within { result < length regions.now }
