@@ -1,6 +1,6 @@
 -- The places of regions among those that are kept, and the links between these.
 use Rattle.std.proofs.Common.{◌≡◌, ◌⊎◌, inl, inr, ℕ, ◌+◌, ◌<◌, ◌≤◌, ◌^◌, Bool, true, false, ◌&&◌, List, [], ◌∷◌, ◌++◌, length, get_or, refl, sym, ap, ◌∙◌, subst, arith}
-use Rattle.std.specs.Prelude.{map, filter, Contains, All}
+use Rattle.std.specs.Prelude.{map, filter, sum_by, Contains, All}
 use Rattle.std.specs.List.{range_with_len}
 use Rattle.std.proofs.lemmas.List.{get_or_append_left, get_or_push, length_push}
 use Rattle.std.proofs.lemmas.List.Elements.{All-contains}
@@ -13,8 +13,8 @@ use Rattle.mutual_merge.specs.Linked.{AreLinked, IsLink, region_at, name_at, edg
 use Rattle.mutual_merge.specs.Left.{AreLeft, is_kept, kept_edges, kept_regions}
 use Rattle.mutual_merge.specs.Trimmed.{AreKept, AreTrimmed, kept_links, link_at}
 use Rattle.mutual_merge.proofs.KeptRegions.{kept_upto-take, kept_upto-skip}
-use Rattle.mutual_merge.proofs.LeftGraphs.{Contains-unfilter, IsGraph-left, IsWithinEdges-left, IsLeftOf-left}
-use Rattle.mutual_merge.proofs.LinkedEdges.{AreLinked-from_edges, IsInside}
+use Rattle.mutual_merge.proofs.LeftGraphs.{Contains-unfilter, kept_edges-fewer, IsGraph-left, IsWithinEdges-left, IsLeftOf-left}
+use Rattle.mutual_merge.proofs.LinkedEdges.{AreLinked-from_edges, IsInside, same_sums}
 
 -- what is kept of the first i regions
 pub record AreKeptTo (regions : List Region) (kept : List Bool) (i : ℕ) (left : List Region) (places : List ℕ) : Type 0 where
@@ -159,10 +159,15 @@ module _ (t : Threshold) (faces : ℕ) (regions : List Region) (links : List Lin
         let few = are_kept.few in
         AreLinked-from_edges left (kept_edges regions links kept) (kept_links kept places links)
         (subst (λ rs. IsGraph (record { regions = rs; edges = kept_edges regions links kept })) (sym are_kept.regions_are)
-        (IsGraph-left t faces regions links kept linked are_left))
+        (IsGraph-left regions links kept linked))
         (subst (λ rs. IsWithinEdges (record { regions = rs; edges = kept_edges regions links kept })) (sym are_kept.regions_are)
-        (IsWithinEdges-left t faces regions links kept linked are_left))
+        (IsWithinEdges-left regions links kept linked))
         (omega arith) inside same_edges;
     few = are_kept.few;
-    left_is = subst (IsLeftOf t faces (graph_of regions links)) same_graph (IsLeftOf-left t faces regions links kept linked are_left);
+    fewer =
+        let mine = same_sums (name_at left) (kept_links kept places links) in
+        let same = ap (sum_by (λ e. e.contact.count)) same_edges in
+        let least = kept_edges-fewer regions links kept in
+        omega (arith, mine, same, least);
+    left_is = subst (IsLeftOf t faces (graph_of regions links)) same_graph (IsLeftOf-left regions links kept linked t faces are_left);
   }

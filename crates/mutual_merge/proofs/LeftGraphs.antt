@@ -20,7 +20,7 @@ use Rattle.mutual_merge.proofs.LinkedEdges.{same_sums}
 use Rattle.mutual_merge.proofs.PairRounds.{linked_graph, link_of}
 
 -- what passes a test stays in a list, and what is in it passes
-Contains-filter : {X : Type 0} (p : X → Bool) (xs : List X) (x : X) → Contains xs x → p x ≡ true → Contains (filter p xs) x
+pub Contains-filter : {X : Type 0} (p : X → Bool) (xs : List X) (x : X) → Contains xs x → p x ≡ true → Contains (filter p xs) x
 Contains-filter p [] x inside pass = absurd (contains_none x inside)
 Contains-filter p (y ∷ xs) x inside pass =
     step (p y) (contains_cases y x xs inside) (λ same. ap p same ∙ pass) (λ later. Contains-filter p xs x later pass)
@@ -56,35 +56,50 @@ both_of false b h = absurd (false≢true h)
 and_of : (a b : Bool) → a ≡ true → b ≡ true → (a && b) ≡ true
 and_of a b one other = (λ i. one i && other i)
 
-module _ (t : Threshold) (faces : ℕ) (regions : List Region) (links : List Link) (kept : List Bool)
-    (linked : AreLinked regions links) (are_left : AreLeft t faces regions links kept) where
+-- the edges of a part of the links have no more edges of the grid than all links
+pub filtered-fewer : (regions : List Region) (links : List Link) (p : Link → Bool)
+    → sum_by (λ e. e.contact.count) (edges_by (name_at regions) (filter p links)) ≤ link_edges links
+filtered-fewer regions links p =
+    let sums = same_sums (name_at regions) (filter p links) in
+    let both = sum_by-filter_both p (λ l. not (p l)) (λ l. refl) (λ (l : Link). l.contact.count) links in
+    omega (arith, sums, both)
+
+pub kept_edges-fewer : (regions : List Region) (links : List Link) (kept : List Bool)
+    → sum_by (λ e. e.contact.count) (kept_edges regions links kept) ≤ link_edges links
+kept_edges-fewer regions links kept = filtered-fewer regions links (λ l. is_kept kept l.a && is_kept kept l.b)
+
+-- a part of the links, by a test, is linked as they are
+pub filtered_linked : (regions : List Region) (links : List Link) (p : Link → Bool) → AreLinked regions links
+    → AreLinked regions (filter p links)
+filtered_linked regions links p linked = record {
+  regions_ascend = linked.regions_ascend;
+  fit = linked.fit;
+  links_ascend = AllPairs-filter LinkBefore p links linked.links_ascend;
+  links_are = record {
+    each = All-filter p (IsLink (length regions)) links linked.links_are.each;
+    within =
+        let both = sum_by-filter_both p (λ l. not (p l)) (λ l. refl) (λ (l : Link). l.contact.count) links in
+        let all = linked.links_are.within in omega arith;
+  };
+}
+
+-- the regions that are kept, and the edges among them
+module _ (regions : List Region) (links : List Link) (kept : List Bool) (linked : AreLinked regions links) where
   link_in : (l : Link) → Contains links l → IsLink (length regions) l
   link_in l inside = All-contains (IsLink (length regions)) links l linked.links_are.each inside
 
   still_linked : AreLinked regions (filter (λ l. is_kept kept l.a && is_kept kept l.b) links)
-  still_linked =
-      let p : Link → Bool = λ l. is_kept kept l.a && is_kept kept l.b in
-      record {
-        regions_ascend = linked.regions_ascend;
-        fit = linked.fit;
-        links_ascend = AllPairs-filter LinkBefore p links linked.links_ascend;
-        links_are = record {
-          each = All-filter p (IsLink (length regions)) links linked.links_are.each;
-          within =
-              let both = sum_by-filter_both p (λ l. not (p l)) (λ l. refl) (λ (l : Link). l.contact.count) links in
-              let all = linked.links_are.within in omega arith;
-        };
-      }
+  still_linked = filtered_linked regions links (λ l. is_kept kept l.a && is_kept kept l.b) linked
 
   -- the place of a region that is kept
-  kept_place : (r : Region) → Contains (kept_regions regions kept) r
+  pub kept_place : (r : Region) → Contains (kept_regions regions kept) r
       → (k : ℕ) × (k < length regions) × (is_kept kept k ≡ true) × (region_at regions k ≡ r)
   kept_place r inside =
       let found = Contains-unmap (region_at regions) (filter (is_kept kept) (range_with_len 0 (length regions))) r inside in
       let passed = Contains-unfilter (is_kept kept) (range_with_len 0 (length regions)) found.0 found.1 in
       (found.0, in_range (length regions) found.0 passed.0, passed.1, found.2)
 
-  kept_there : (k : ℕ) → k < length regions → is_kept kept k ≡ true → Contains (kept_regions regions kept) (region_at regions k)
+  pub kept_there : (k : ℕ) → k < length regions → is_kept kept k ≡ true → Contains (kept_regions regions kept) (region_at regions k)
   kept_there k below pass =
       Contains-map (region_at regions) (filter (is_kept kept) (range_with_len 0 (length regions))) k
       (Contains-filter (is_kept kept) (range_with_len 0 (length regions)) k (range_has (length regions) k below) pass)
@@ -109,7 +124,7 @@ module _ (t : Threshold) (faces : ℕ) (regions : List Region) (links : List Lin
           omega arith
 
   -- the link of an edge that is kept
-  edge_link : (e : GraphEdge) → Contains (kept_edges regions links kept) e
+  pub edge_link : (e : GraphEdge) → Contains (kept_edges regions links kept) e
       → (l : Link) × Contains links l × (is_kept kept l.a ≡ true) × (is_kept kept l.b ≡ true) × (edge_by (name_at regions) l ≡ e)
   edge_link e inside =
       let found = link_of regions (filter (λ l. is_kept kept l.a && is_kept kept l.b) links) still_linked e inside in
@@ -117,13 +132,13 @@ module _ (t : Threshold) (faces : ℕ) (regions : List Region) (links : List Lin
       let both = both_of (is_kept kept found.0.a) (is_kept kept found.0.b) passed.1 in
       (found.0, passed.0, both.0, both.1, found.2)
 
-  has_kept : (k x : ℕ) → k < length regions → is_kept kept k ≡ true → name_at regions k ≡ x
+  pub has_kept : (k x : ℕ) → k < length regions → is_kept kept k ≡ true → name_at regions k ≡ x
       → HasRegion (record { regions = kept_regions regions kept; edges = kept_edges regions links kept }) x
   has_kept k x below pass name =
       subst (HasRegion (record { regions = kept_regions regions kept; edges = kept_edges regions links kept })) name
       (faces_at regions k, kept_there k below pass)
 
-  a_in : (l : Link) → Contains links l → l.a < length regions
+  pub a_in : (l : Link) → Contains links l → l.a < length regions
   a_in l inside = let is = link_in l inside in let up = is.ordered in let low = is.inside in omega arith
 
   pub IsGraph-left : IsGraph (record { regions = kept_regions regions kept; edges = kept_edges regions links kept })
@@ -146,71 +161,79 @@ module _ (t : Threshold) (faces : ℕ) (regions : List Region) (links : List Lin
       let within = still_linked.links_are.within in
       omega arith
 
-  -- a region is left where its place is
-  is_left : (k : ℕ) → k < length regions → IsLeftAt t faces regions links k → IsLeft t faces (graph_of regions links) (region_at regions k)
-  is_left k below (inl held) = inl held
-  is_left k below (inr (l, inside, at_k, reaches)) =
-      inr (
-        edge_by (name_at regions) l,
-        Contains-map (edge_by (name_at regions)) links l inside,
-        elim at_k [ inl a ↦ inl (ap (name_at regions) a) | inr b ↦ inr (ap (name_at regions) b) ],
-        reaches,
-      )
-
-  left_at : (k : ℕ) → k < length regions → IsLeft t faces (graph_of regions links) (region_at regions k) → IsLeftAt t faces regions links k
-  left_at k below (inl held) = inl held
-  left_at k below (inr (e, inside, at_r, reaches)) =
-      let found = link_of regions links linked e inside in
-      let l = found.0 in
-      let place_a : e.a ≡ name_at regions k → l.a ≡ k = λ same.
-      same_place regions l.a k linked.regions_ascend (a_in l found.1) below (ap (λ z. z.a) found.2 ∙ same) in
-      let place_b : e.b ≡ name_at regions k → l.b ≡ k = λ same.
-      same_place regions l.b k linked.regions_ascend (link_in l found.1).inside below (ap (λ z. z.b) found.2 ∙ same) in
-      inr (
-        l,
-        found.1,
-        elim at_r [ inl a ↦ inl (place_a a) | inr b ↦ inr (place_b b) ],
-        subst (λ z. Reaches t z.contact) (sym found.2) reaches,
-      )
-
-  kept_name : (k x : ℕ) → k < length regions → name_at regions k ≡ x
+  pub kept_name : (k x : ℕ) → k < length regions → name_at regions k ≡ x
       → HasRegion (record { regions = kept_regions regions kept; edges = kept_edges regions links kept }) x → is_kept kept k ≡ true
   kept_name k x below name (f, inside) =
       let place = kept_place (record { name = x; faces = f }) inside in
       let same = same_place regions place.0 k linked.regions_ascend place.1 below (ap (λ r. r.name) place.3 ∙ sym name) in
       subst (λ z. is_kept kept z ≡ true) same place.2
 
-  pub IsLeftOf-left : IsLeftOf t faces (graph_of regions links) (record { regions = kept_regions regions kept; edges = kept_edges regions links kept })
-  IsLeftOf-left = record {
-    graph_is = IsGraph-left;
-    regions = λ r. (
-      λ inside.
-          let place = kept_place r inside in
-          let there = Contains-get_or regions place.0 (record { name = 0; faces = 0 }) place.1 in (
-            subst (Contains regions) place.3 there,
-            subst (IsLeft t faces (graph_of regions links)) place.3
-                (is_left place.0 place.1 ((are_left.each place.0 place.1).0 place.2)),
-          ),
-      λ (inside, left).
-          let place = region_place regions r inside in
-          let here = left_at place.0 place.1 (subst (IsLeft t faces (graph_of regions links)) (sym place.2) left) in
-          subst (Contains (kept_regions regions kept)) place.2
-          (kept_there place.0 place.1 ((are_left.each place.0 place.1).1 here)),
-    );
-    edges = λ e. (
-      λ inside.
-          let l = edge_link e inside in (
-            subst (Contains (edges_by (name_at regions) links)) l.4 (Contains-map (edge_by (name_at regions)) links l.0 l.1),
-            IsGraph-left.from_region e inside,
-            IsGraph-left.to_region e inside,
-          ),
-      λ (inside, from, to).
-          let found = link_of regions links linked e inside in
-          let l = found.0 in
-          let a = kept_name l.a e.a (a_in l found.1) (ap (λ z. z.a) found.2) from in
-          let b = kept_name l.b e.b (link_in l found.1).inside (ap (λ z. z.b) found.2) to in
-          subst (Contains (kept_edges regions links kept)) found.2
-          (Contains-map (edge_by (name_at regions)) (filter (λ l. is_kept kept l.a && is_kept kept l.b) links) l
-          (Contains-filter (λ l. is_kept kept l.a && is_kept kept l.b) links l found.1 (and_of (is_kept kept l.a) (is_kept kept l.b) a b))),
-    );
-  }
+  -- the edges that are kept are those among the regions that are
+  pub kept_edges_are : (e : GraphEdge) → Contains (kept_edges regions links kept) e
+      ↔ (Contains (edges_by (name_at regions) links) e
+      × HasRegion (record { regions = kept_regions regions kept; edges = kept_edges regions links kept }) e.a
+      × HasRegion (record { regions = kept_regions regions kept; edges = kept_edges regions links kept }) e.b)
+  kept_edges_are e = (
+    λ inside.
+        let l = edge_link e inside in (
+          subst (Contains (edges_by (name_at regions) links)) l.4 (Contains-map (edge_by (name_at regions)) links l.0 l.1),
+          IsGraph-left.from_region e inside,
+          IsGraph-left.to_region e inside,
+        ),
+    λ (inside, from, to).
+        let found = link_of regions links linked e inside in
+        let l = found.0 in
+        let a = kept_name l.a e.a (a_in l found.1) (ap (λ z. z.a) found.2) from in
+        let b = kept_name l.b e.b (link_in l found.1).inside (ap (λ z. z.b) found.2) to in
+        subst (Contains (kept_edges regions links kept)) found.2
+        (Contains-map (edge_by (name_at regions)) (filter (λ l. is_kept kept l.a && is_kept kept l.b) links) l
+        (Contains-filter (λ l. is_kept kept l.a && is_kept kept l.b) links l found.1 (and_of (is_kept kept l.a) (is_kept kept l.b) a b))),
+  )
+
+  module _ (t : Threshold) (faces : ℕ) (are_left : AreLeft t faces regions links kept) where
+    -- a region is left where its place is
+    is_left : (k : ℕ) → k < length regions → IsLeftAt t faces regions links k → IsLeft t faces (graph_of regions links) (region_at regions k)
+    is_left k below (inl held) = inl held
+    is_left k below (inr (l, inside, at_k, reaches)) =
+        inr (
+          edge_by (name_at regions) l,
+          Contains-map (edge_by (name_at regions)) links l inside,
+          elim at_k [ inl a ↦ inl (ap (name_at regions) a) | inr b ↦ inr (ap (name_at regions) b) ],
+          reaches,
+        )
+
+    left_at : (k : ℕ) → k < length regions → IsLeft t faces (graph_of regions links) (region_at regions k) → IsLeftAt t faces regions links k
+    left_at k below (inl held) = inl held
+    left_at k below (inr (e, inside, at_r, reaches)) =
+        let found = link_of regions links linked e inside in
+        let l = found.0 in
+        let place_a : e.a ≡ name_at regions k → l.a ≡ k = λ same.
+        same_place regions l.a k linked.regions_ascend (a_in l found.1) below (ap (λ z. z.a) found.2 ∙ same) in
+        let place_b : e.b ≡ name_at regions k → l.b ≡ k = λ same.
+        same_place regions l.b k linked.regions_ascend (link_in l found.1).inside below (ap (λ z. z.b) found.2 ∙ same) in
+        inr (
+          l,
+          found.1,
+          elim at_r [ inl a ↦ inl (place_a a) | inr b ↦ inr (place_b b) ],
+          subst (λ z. Reaches t z.contact) (sym found.2) reaches,
+        )
+
+    pub IsLeftOf-left : IsLeftOf t faces (graph_of regions links) (record { regions = kept_regions regions kept; edges = kept_edges regions links kept })
+    IsLeftOf-left = record {
+      graph_is = IsGraph-left;
+      regions = λ r. (
+        λ inside.
+            let place = kept_place r inside in
+            let there = Contains-get_or regions place.0 (record { name = 0; faces = 0 }) place.1 in (
+              subst (Contains regions) place.3 there,
+              subst (IsLeft t faces (graph_of regions links)) place.3
+                  (is_left place.0 place.1 ((are_left.each place.0 place.1).0 place.2)),
+            ),
+        λ (inside, left).
+            let place = region_place regions r inside in
+            let here = left_at place.0 place.1 (subst (IsLeft t faces (graph_of regions links)) (sym place.2) left) in
+            subst (Contains (kept_regions regions kept)) place.2
+            (kept_there place.0 place.1 ((are_left.each place.0 place.1).1 here)),
+      );
+      edges = kept_edges_are;
+    }

@@ -11,4 +11,9 @@ pub mod KeptRegions
 pub mod LeftGraphs
 pub mod KeptPlaces
 pub mod TrimmedGraphs
+pub mod MadeRegions
+pub mod PartedGraphs
+pub mod UnitedGraphs
+pub mod PartPlaces
+pub mod UnitePlaces
 pub mod SampleGraphs

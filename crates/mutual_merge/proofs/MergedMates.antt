@@ -80,6 +80,7 @@ AreMerged-from regions links mates kept places moved sorted joined linked surviv
       };
       places = places;
       survivors = survivors;
+      fewer = let e = are_joined.edges in let o = sum_by-IsPermutation (λ (l : Link). l.contact.count) moved sorted order in let w = are_moved.within in omega arith;
       contacts = λ past x y xy.
           are_joined.contacts (name_at kept) past x y xy
           ∙ sorted_contacts (name_at kept) moved sorted past x y order

@@ -12,6 +12,7 @@ use Rattle.agglo_model.proofs.GraphEdges.{edge_contact, edge_of_contact, edge_th
 use Rattle.agglo_model.proofs.GraphFirsts.{contact_in-none}
 use Rattle.agglo_model.proofs.GraphMerges.{contact_in-swap, merged-third, merged-gone, merged-others, name_cases}
 use Rattle.agglo_model.proofs.GraphRounds.{Leads}
+use Rattle.mutual_merge.specs.Rounds.{Carries}
 
 -- The part of a graph that has all regions which a merge may still take, and the edges among its regions.
 pub record IsTrimmed (t : Threshold) (faces : ℕ) (graph part : RegionGraph) : Type 0 where
@@ -200,7 +201,7 @@ module _ (t : Threshold) (faces : ℕ) (graph part : RegionGraph) (is : IsGraph 
       by_cases (inl none) (inl gone) =
           contact_in-none part trim.graph_is past x y gone ∙ sym (contact_in-none graph is past x y none)
 
-  same_between : (past x y : ℕ) → x ≢ y → HasRegion part x → HasRegion part y
+  pub same_between : (past x y : ℕ) → x ≢ y → HasRegion part x → HasRegion part y
       → contact_in past part.edges x y ≡ contact_in past graph.edges x y
   same_between past x y xy has_x has_y = elim (order_cases x y xy) [
     | inl less ↦ same_there past x y less has_x has_y
@@ -394,7 +395,7 @@ module _ (t : Threshold) (faces : ℕ) (graph part : RegionGraph) (is : IsGraph 
     }
 
 -- the merges that settle the part settle the graph, and the same is left of both
-trimmed_settles : (t : Threshold) (faces : ℕ) (graph part : RegionGraph) (merges : List Merge) (last left : RegionGraph)
+pub trimmed_settles : (t : Threshold) (faces : ℕ) (graph part : RegionGraph) (merges : List Merge) (last left : RegionGraph)
     → IsGraph graph → IsTrimmed t faces graph part → SettlesInto t faces part merges last → IsLeftOf t faces last left
     → Settles t faces graph merges left
 trimmed_settles t faces graph part [] last left is trim (same, none) is_left = record {
@@ -409,18 +410,13 @@ trimmed_settles t faces graph part (m ∷ merges) last left is trim (pair, (next
     (trimmed_after t faces graph part is trim m next found.0 pair after_part found.1) rest is_left in
     record { last = more.last; settled = (here, (found.0, found.1, more.settled)); left_is = more.left_is }
 
--- These merges of the graph `start` make another one of it: whatever settles that one settles `start` after them.
-abbrev pub Carries : Threshold → ℕ → RegionGraph → List Merge → RegionGraph → Type 0
-Carries t faces start merges graph = (more : List Merge) (left : RegionGraph)
-    → Settles t faces graph more left → Settles t faces start (merges ++ more) left
-
 pub carries_trimmed : (t : Threshold) (faces : ℕ) (start graph part : RegionGraph) (merges : List Merge) → IsGraph graph
     → IsLeftOf t faces graph part → Carries t faces start merges graph → Carries t faces start merges part
 carries_trimmed t faces start graph part merges is is_left carries more left settles =
     carries more left (trimmed_settles t faces graph part more settles.last left is (IsTrimmed-left t faces graph part is_left)
     settles.settled settles.left_is)
 
-leads_settles : (t : Threshold) (faces : ℕ) (graph next : RegionGraph) (merges more : List Merge) (left : RegionGraph)
+pub leads_settles : (t : Threshold) (faces : ℕ) (graph next : RegionGraph) (merges more : List Merge) (left : RegionGraph)
     → Leads t faces graph merges next → Settles t faces next more left → Settles t faces graph (merges ++ more) left
 leads_settles t faces graph next [] more left same settles = subst (λ g. Settles t faces g more left) (sym same) settles
 leads_settles t faces graph next (m ∷ merges) more left (pair, (mid, after, rest)) settles =

@@ -43,9 +43,3 @@ kept_regions regions kept = map (region_at regions) (filter (is_kept kept) (rang
 abbrev pub kept_edges : List Region → List Link → List Bool → List GraphEdge
 kept_edges regions links kept =
     edges_by (name_at regions) (filter (λ l. is_kept kept l.a && is_kept kept l.b) links)
-
--- After these merges of a graph there are these regions and links, but for regions that no merge takes any
--- more: what is left of them is left of the graph that the merges settle.
-pub record HasSettled (t : Threshold) (faces : ℕ) (graph : RegionGraph) (merges : List Merge) (regions : List Region) (links : List Link) : Type 0 where
-  pub linked : AreLinked regions links
-  pub settles : (left : RegionGraph) → IsLeftOf t faces (graph_of regions links) left → Settles t faces graph merges left

@@ -5,3 +5,5 @@ pub mod Merged
 pub mod Left
 pub mod Trimmed
 pub mod Samples
+pub mod Parts
+pub mod Rounds

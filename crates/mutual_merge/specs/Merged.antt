@@ -40,6 +40,7 @@ pub record AreMerged (regions : List Region) (links : List Link) (mates : List �
   pub linked : AreLinked kept joined
   pub places : List ℕ
   pub survivors : AreSurvivors regions mates kept places
+  pub fewer : link_edges joined ≤ link_edges links
   pub contacts : SameContactsBy (name_at kept) joined (λ k. name_at regions (survivor_of mates k)) links
 
 -- What links become when their regions move to other places: those that join a place to itself are left out.

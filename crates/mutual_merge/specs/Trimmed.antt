@@ -4,7 +4,7 @@ use Rattle.agglo_model.specs.PairOrder.{Threshold}
 use Rattle.agglo_model.specs.RegionGraph.{Region}
 use Rattle.agglo_model.specs.Settling.{IsLeftOf}
 use Rattle.mutual_merge.specs.declared.links.Link.{Link}
-use Rattle.mutual_merge.specs.Linked.{AreLinked, region_at, graph_of}
+use Rattle.mutual_merge.specs.Linked.{AreLinked, link_edges, region_at, graph_of}
 use Rattle.mutual_merge.specs.Left.{is_kept, kept_regions}
 
 -- the regions that are kept, and for each of them its place among them
@@ -28,4 +28,5 @@ kept_links kept places links = map (link_at places) (filter (λ l. is_kept kept 
 pub record AreTrimmed (t : Threshold) (faces : ℕ) (regions : List Region) (links : List Link) (left : List Region) (left_links : List Link) : Type 0 where
   pub linked : AreLinked left left_links
   pub few : length left ≤ length regions
+  pub fewer : link_edges left_links ≤ link_edges links
   pub left_is : IsLeftOf t faces (graph_of regions links) (graph_of left left_links)

@@ -9,7 +9,9 @@ mod firsts;
 mod links;
 mod merging;
 mod pairs;
+mod parts;
 mod residue;
+mod resting;
 mod settling;
 #[cfg(test)]
 mod tests;

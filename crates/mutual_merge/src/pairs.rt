@@ -1,9 +1,10 @@
 ghost use Rattle.std.specs.Prelude.{◌≡◌, ◌≤◌, ◌^◌, ◌↔◌, ◌++◌, All, IfOk, IsTrue, bit_and, length, map, slice_set};
 ghost use Rattle.std.specs.List.{range_with_len};
+ghost use Rattle.mutual_merge.specs.Firsts.{AreFirsts};
 ghost use Rattle.mutual_merge.specs.Linked.{AreLinked, IsLink};
 ghost use Rattle.mutual_merge.specs.Pairs.{AreSingle, IsPairing, IsReciprocalBy, merge_of};
 
-use crate::firsts::{first_contacts, is_not_earlier};
+use crate::firsts::is_not_earlier;
 use crate::links::{Link, name_of};
 use agglo_model::Memory;
 use mean_fraction::{Contact, Threshold};
@@ -18,23 +19,24 @@ pub struct Pairing {
     pub pairs: Vec<Link>,
 }
 
-/// Pairs up regions that are reciprocal. Where some pair is reciprocal, there is one.
+/// Pairs up regions that are reciprocal, by the first contact at each. Where some pair is reciprocal, there is one.
 pub fn pair_up(
     alloc: Global,
     regions: &[Region],
     links: &[Link],
+    firsts: &[Option<Contact>],
     threshold: &Threshold,
     frozen: u8,
 ) -> Result<Pairing, Memory>
-    requires { AreLinked regions.now links.now }
+    requires linked { AreLinked regions.now links.now }
+    requires firsts { AreFirsts links.now (length regions.now) firsts.now }
     ensures { IfOk result (λ pairing.
         IsPairing threshold.now frozen regions.now links.now pairing.mates.items pairing.pairs.items) }
 {
-    let firsts = first_contacts(alloc, links, regions.len())?;
     let mut mates = places(alloc, regions.len())?;
     let mut pairs = Vec::new(alloc);
     for link in links {
-        if can_pair(link, &mates, regions, &firsts, threshold, frozen) {
+        if can_pair(link, &mates, regions, firsts, threshold, frozen) {
             pairs.push(*link)?;
             mate(&mut mates, link);
         }
@@ -43,7 +45,7 @@ pub fn pair_up(
 }
 
 /// So many places, in order.
-fn places(alloc: Global, count: usize) -> Result<Vec<u32>, Memory>
+pub fn places(alloc: Global, count: usize) -> Result<Vec<u32>, Memory>
     requires { count ≤ 2 ^ 32 }
     ensures { IfOk result (λ places. places.items ≡ range_with_len 0 count) }
 {

@@ -1,6 +1,7 @@
-ghost use Rattle.std.specs.Prelude.{◌≡◌, All, IfOk, length};
+ghost use Rattle.std.specs.Prelude.{◌≡◌, ◌≤◌, All, IfOk, length};
+ghost use Rattle.agglo_model.specs.RegionGraph.{grid_edges};
 ghost use Rattle.agglo_model.specs.Settling.{IsLeftOf};
-ghost use Rattle.mutual_merge.specs.Linked.{AreLinked, IsLink, graph_of};
+ghost use Rattle.mutual_merge.specs.Linked.{AreLinked, IsLink, graph_of, link_edges};
 ghost use Rattle.mutual_merge.specs.Left.{AreHeldBack, AreLeft, KeepsReaching, kept_edges, kept_regions};
 
 use crate::links::{Link, name_of};
@@ -20,8 +21,9 @@ pub fn leave(
     frozen: u8,
 ) -> Result<Graph, Memory>
     requires { AreLinked settled.regions.items settled.links.items }
-    ensures { IfOk result (λ left.
+    ensures left { IfOk result (λ left.
         IsLeftOf threshold.now frozen (graph_of settled.regions.items settled.links.items) left) }
+    ensures fewer { IfOk result (λ left. grid_edges left ≤ link_edges settled.links.items) }
 {
     let kept = choose(alloc, &settled.regions, &settled.links, threshold, frozen)?;
     let edges = edges_among(alloc, &settled.regions, &settled.links, &kept)?;
@@ -46,7 +48,7 @@ pub fn choose(
 }
 
 /// Whether each region is held back.
-fn hold_back(alloc: Global, regions: &[Region], frozen: u8) -> Result<Vec<bool>, Memory>
+pub fn hold_back(alloc: Global, regions: &[Region], frozen: u8) -> Result<Vec<bool>, Memory>
     ensures { IfOk result (λ held. AreHeldBack frozen regions.now held.items) }
 {
     let mut held = Vec::with_capacity(alloc, regions.len())?;
@@ -70,7 +72,7 @@ fn keep_reaching(kept: &mut [bool], links: &[Link], threshold: &Threshold)
 }
 
 /// The edges between regions that are kept.
-fn edges_among(
+pub fn edges_among(
     alloc: Global,
     regions: &[Region],
     links: &[Link],
@@ -96,7 +98,7 @@ fn edges_among(
 }
 
 /// The regions that are kept.
-fn regions_of(alloc: Global, regions: &[Region], kept: &[bool]) -> Result<Vec<Region>, Memory>
+pub fn regions_of(alloc: Global, regions: &[Region], kept: &[bool]) -> Result<Vec<Region>, Memory>
     requires { length kept.now ≡ length regions.now }
     ensures { IfOk result (λ left. left.items ≡ kept_regions regions.now kept.now) }
 {

@@ -1,12 +1,16 @@
-ghost use Rattle.std.specs.Prelude.{◌≡◌, IfOk};
+ghost use Rattle.std.specs.Prelude.{◌≡◌, ◌≤◌, IfOk, IfSome, IsNone};
+ghost use Rattle.agglo_model.specs.RegionGraph.{grid_edges};
 ghost use Rattle.agglo_model.specs.Settling.{Settles};
-ghost use Rattle.mutual_merge.specs.Left.{HasSettled};
 ghost use Rattle.mutual_merge.specs.Linked.{AreLinked, graph_of};
+ghost use Rattle.mutual_merge.specs.Rounds.{HasMerged, IsSettled, MayBeParted};
 
+use crate::firsts::first_contacts;
 use crate::links::link_all;
 use crate::merging::{LinkedGraph, merge_mates};
 use crate::pairs::{note_merges, pair_up};
+use crate::parts::{part, unite};
 use crate::residue::leave;
+use crate::resting::find_resting;
 use crate::trimming::trim;
 use agglo_model::Memory;
 use mean_fraction::Threshold;
@@ -21,15 +25,20 @@ pub struct Settled {
     pub merges: Vec<Merge>,
 }
 
-/// A graph in which merges were made, and these merges.
+/// A graph in which merges were made, and these merges. Where a part of it is to be settled by itself, `resting`
+/// says which regions are not in that; else no pair is reciprocal.
 #[derive(Drop)]
 struct Progress {
     graph: LinkedGraph,
     merges: Vec<Merge>,
+    resting: Option<Vec<bool>>,
 }
 
 /// Merges the reciprocal pairs of a graph until there is none, but for regions that touch one of the faces
 /// `frozen`. Where there is no memory, the graph is given up.
+///
+/// Where most contacts are between regions that wait for one that is held back, the others are settled by
+/// themselves; then all are looked at once more.
 pub fn settle(
     alloc: Global,
     graph: Graph,
@@ -39,11 +48,43 @@ pub fn settle(
     ensures { IfOk result (λ settled. Settles threshold.now frozen graph settled.merges.items settled.residue) }
 {
     let start = linked(alloc, graph)?;
-    let last = merge_all(alloc, start, threshold, frozen)?;
-    let residue = leave(alloc, last.graph, threshold, frozen)?;
+    let Progress {
+        graph,
+        mut merges,
+        resting,
+    } = merge_rounds(alloc, start, threshold, frozen, true)?;
+    let Some(rest) = resting else {
+        let residue = leave(alloc, graph, threshold, frozen)?;
+        return Ok(Settled { residue, merges });
+    };
+    let parts = part(alloc, &graph, &rest, frozen)?;
+    let awake = settle_whole(alloc, parts.awake, threshold, frozen)?;
+    let united = unite(alloc, parts.aside, awake.residue, frozen)?;
+    let last = settle_whole(alloc, united, threshold, frozen)?;
+    merges.extend_from_slice(&awake.merges)?;
+    merges.extend_from_slice(&last.merges)?;
+    Ok(Settled {
+        residue: last.residue,
+        merges,
+    })
+}
+
+/// The same, of all regions in each round.
+fn settle_whole(
+    alloc: Global,
+    graph: Graph,
+    threshold: &Threshold,
+    frozen: u8,
+) -> Result<Settled, Memory>
+    ensures settles { IfOk result (λ settled. Settles threshold.now frozen graph settled.merges.items settled.residue) }
+    ensures fewer { IfOk result (λ settled. grid_edges settled.residue ≤ grid_edges graph) }
+{
+    let start = linked(alloc, graph)?;
+    let progress = merge_rounds(alloc, start, threshold, frozen, false)?;
+    let residue = leave(alloc, progress.graph, threshold, frozen)?;
     Ok(Settled {
         residue,
-        merges: last.merges,
+        merges: progress.merges,
     })
 }
 
@@ -60,25 +101,53 @@ fn linked(alloc: Global, graph: Graph) -> Result<LinkedGraph, Memory>
     })
 }
 
-/// Merges reciprocal pairs in rounds until there is none. Regions that no merge takes any more are let go
-/// before each round, so that a round looks at the others alone.
-fn merge_all(
+/// Merges reciprocal pairs in rounds until there is none, or, `by_parts`, until one is to be made. Regions that no merge takes
+/// any more are let go before each round, so that a round looks at the others alone.
+fn merge_rounds(
     alloc: Global,
     start: LinkedGraph,
     threshold: &Threshold,
     frozen: u8,
+    by_parts: bool,
 ) -> Result<Progress, Memory>
     requires { AreLinked start.regions.items start.links.items }
-    ensures { IfOk result (λ last. HasSettled threshold.now frozen (graph_of start.regions.items start.links.items)
-        last.merges.items last.graph.regions.items last.graph.links.items) }
+    ensures merged { IfOk result (λ progress. HasMerged threshold.now frozen start.regions.items start.links.items
+        progress.merges.items progress.graph.regions.items progress.graph.links.items) }
+    ensures settled { IfOk result (λ progress. IsNone progress.resting → IsSettled threshold.now frozen
+        progress.graph.regions.items progress.graph.links.items) }
+    ensures parted { IfOk result (λ progress. IfSome progress.resting (λ rest.
+        MayBeParted frozen by_parts progress.graph.regions.items rest.items)) }
 {
     let mut graph = start;
     let mut merges = Vec::new(alloc);
     loop {
         graph = trim(alloc, &graph, threshold, frozen)?;
-        let pairing = pair_up(alloc, &graph.regions, &graph.links, threshold, frozen)?;
+        let firsts = first_contacts(alloc, &graph.links, graph.regions.len())?;
+        let pairing = pair_up(
+            alloc,
+            &graph.regions,
+            &graph.links,
+            &firsts,
+            threshold,
+            frozen,
+        )?;
         if pairing.pairs.is_empty() {
-            return Ok(Progress { graph, merges });
+            let resting = None;
+            return Ok(Progress {
+                graph,
+                merges,
+                resting,
+            });
+        }
+        if by_parts {
+            let resting = find_resting(alloc, &graph, &firsts, &pairing.pairs, frozen)?;
+            if resting.is_some() {
+                return Ok(Progress {
+                    graph,
+                    merges,
+                    resting,
+                });
+            }
         }
         note_merges(&mut merges, &graph.regions, &pairing.pairs)?;
         graph = merge_mates(alloc, &graph.regions, &graph.links, &pairing.mates)?;

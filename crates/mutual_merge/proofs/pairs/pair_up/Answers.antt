@@ -13,14 +13,14 @@ use Rattle.mutual_merge.proofs.pairs.pair_up.Goals as goal
 use Rattle.mutual_merge.proofs.pairs.pair_up.Goals.{Joined-can_pair, After-can_pair, then-can_pair+in_ok-push, else-can_pair}
 
 -- the first contacts at the regions of the link, and what the link is
-at_link : (c : After-can_pair) → AtLink c.args.threshold.now c.args.frozen c.args.regions.now c.args.links.now c.in_ok-firsts.firsts.items c.link-item.result
+at_link : (c : After-can_pair) → AtLink c.args.threshold.now c.args.frozen c.args.regions.now c.args.links.now c.args.firsts.now c.link-item.result
 at_link c =
     let links : List Link = c.args.links.now in
     let i : ℕ = c.loop-link.link-index in
     let l : Link = c.link-item.result in
-    let each = c.requires.links_are.each in
+    let each = c.requires.linked.links_are.each in
     record {
-      are = c.in_ok-firsts.ensures;
+      are = c.requires.firsts;
       counts = λ m inside. (All-contains (IsLink (length c.args.regions.now)) links m each inside).touching;
       there = (i, c.loop-link-test.true, sym c.link-item.is);
       is = subst (IsLink (length c.args.regions.now)) (sym c.link-item.is) (All-get_or (IsLink (length c.args.regions.now)) links i l c.loop-link-test.true each);
@@ -39,9 +39,9 @@ loop-link-preserved c =
     let l : Link = c.link-item.result in
     let known = at_link (goal.at.loop-link-preserved c).After-can_pair in
     let ms : List ℕ = c.loop-link.mates.items in
-    let decides : (c.can_pair.result ≡ true) ↔ (AreSingle ms l × IsReciprocalBy t c.args.frozen rs c.in_ok-firsts.firsts.items l) =
-    subst (λ xs. (c.can_pair.result ≡ true) ↔ (AreSingle xs l × IsReciprocalBy t c.args.frozen rs c.in_ok-firsts.firsts.items l)) c.deref.ensures.value
-    (subst (λ fs. (c.can_pair.result ≡ true) ↔ (AreSingle c.deref.result.now l × IsReciprocalBy t c.args.frozen rs fs l)) c.deref-in-loop-link.ensures.value c.can_pair.ensures) in
+    let decides : (c.can_pair.result ≡ true) ↔ (AreSingle ms l × IsReciprocalBy t c.args.frozen rs c.args.firsts.now l) =
+    subst (λ xs. (c.can_pair.result ≡ true) ↔ (AreSingle xs l × IsReciprocalBy t c.args.frozen rs c.args.firsts.now l)) c.deref.ensures.value
+    c.can_pair.ensures in
     elim c.if-can_pair.branch [
       | then-can_pair+in_ok-push w ↦
           let both = decides.0 w.if-can_pair.true in
@@ -56,14 +56,14 @@ loop-link-preserved c =
           ap (λ v. v.items) w.pairs-is ∙ w.in_ok-push.ensures.items in
           subst (λ xs. PairsSoFar t c.args.frozen rs links (c.loop-link.link-index + 1) xs c.if-can_pair.pairs.items) (sym mates)
           (subst (λ ps. PairsSoFar t c.args.frozen rs links (c.loop-link.link-index + 1) (mated_by ms l) ps) (sym pairs)
-          (PairsSoFar-take t c.args.frozen rs links c.loop-link.link-index ms c.loop-link.pairs.items c.in_ok-firsts.firsts.items l
+          (PairsSoFar-take t c.args.frozen rs links c.loop-link.link-index ms c.loop-link.pairs.items c.args.firsts.now l
           c.loop-link.invariant known both.0 both.1))
       | else-can_pair w ↦
           let same : c.if-can_pair.mates ≡ c.loop-link.mates = w.mates-is in
           let pairs : c.if-can_pair.pairs ≡ c.loop-link.pairs = w.pairs-is in
           subst (λ v. PairsSoFar t c.args.frozen rs links (c.loop-link.link-index + 1) v.items c.if-can_pair.pairs.items) (sym same)
           (subst (λ v. PairsSoFar t c.args.frozen rs links (c.loop-link.link-index + 1) ms v.items) (sym pairs)
-          (PairsSoFar-skip t c.args.frozen rs links c.loop-link.link-index ms c.loop-link.pairs.items c.in_ok-firsts.firsts.items l
+          (PairsSoFar-skip t c.args.frozen rs links c.loop-link.link-index ms c.loop-link.pairs.items c.args.firsts.now l
           c.loop-link.invariant known (λ d. sym (get_or_read links c.loop-link.link-index l c.loop-link-test.true c.link-item.is d))
           (λ can. false≢true (sym w.if-can_pair.false ∙ decides.1 can))))
     ]

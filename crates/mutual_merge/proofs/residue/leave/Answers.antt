@@ -1,11 +1,12 @@
-use Rattle.std.proofs.Common.{◌≡◌, ◌∙◌, ℕ, List, Bool, sym, subst}
+use Rattle.std.proofs.Common.{◌≡◌, ◌∙◌, ℕ, List, Bool, sym, ap, subst, arith}
+use Rattle.std.specs.Prelude.{sum_by}
 use Rattle.agglo_model.specs.PairOrder.{Threshold}
 use Rattle.agglo_model.specs.RegionGraph.{Region, GraphEdge, RegionGraph, IsGraph, IsWithinEdges}
 use Rattle.agglo_model.specs.Settling.{IsLeftOf}
 use Rattle.mutual_merge.specs.declared.links.Link.{Link}
 use Rattle.mutual_merge.specs.Linked.{graph_of}
 use Rattle.mutual_merge.specs.Left.{AreLeft, kept_edges, kept_regions}
-use Rattle.mutual_merge.proofs.LeftGraphs.{IsGraph-left, IsWithinEdges-left, IsLeftOf-left}
+use Rattle.mutual_merge.proofs.LeftGraphs.{kept_edges-fewer, IsGraph-left, IsWithinEdges-left, IsLeftOf-left}
 use Rattle.mutual_merge.proofs.residue.leave.Goals as goal
 use Rattle.mutual_merge.proofs.residue.leave.Goals.{In_ok-regions}
 
@@ -35,19 +36,24 @@ same_graph c =
 pub of-requires-clause-graph : goal.of-requires-clause-graph
 of-requires-clause-graph c =
     subst IsGraph (same_graph c)
-    (IsGraph-left c.args.threshold.now c.args.frozen c.args.settled.regions.items c.args.settled.links.items c.in_ok-kept.kept.items
-    c.requires (are_left c))
+    (IsGraph-left c.args.settled.regions.items c.args.settled.links.items c.in_ok-kept.kept.items c.requires)
 
 pub of-requires-clause-within : goal.of-requires-clause-within
 of-requires-clause-within c =
     subst IsWithinEdges (same_graph c)
-    (IsWithinEdges-left c.args.threshold.now c.args.frozen c.args.settled.regions.items c.args.settled.links.items c.in_ok-kept.kept.items
-    c.requires (are_left c))
+    (IsWithinEdges-left c.args.settled.regions.items c.args.settled.links.items c.in_ok-kept.kept.items c.requires)
 
-pub returns : goal.returns
-returns c =
-    let made = (goal.at.returns c).In_ok-regions in
+pub returns-clause-left : goal.returns-clause-left
+returns-clause-left c =
+    let made = (goal.at.returns-clause-left c).In_ok-regions in
     subst (IsLeftOf c.args.threshold.now c.args.frozen (graph_of c.args.settled.regions.items c.args.settled.links.items))
     (same_graph made ∙ sym c.of.ensures)
-    (IsLeftOf-left c.args.threshold.now c.args.frozen c.args.settled.regions.items c.args.settled.links.items c.in_ok-kept.kept.items
-    c.requires (are_left made))
+    (IsLeftOf-left c.args.settled.regions.items c.args.settled.links.items c.in_ok-kept.kept.items c.requires
+    c.args.threshold.now c.args.frozen (are_left made))
+
+pub returns-clause-fewer : goal.returns-clause-fewer
+returns-clause-fewer c =
+    let made = (goal.at.returns-clause-fewer c).In_ok-regions in
+    let same = ap (λ g. sum_by (λ e. e.contact.count) g.edges) (same_graph made ∙ sym c.of.ensures) in
+    let least = kept_edges-fewer c.args.settled.regions.items c.args.settled.links.items c.in_ok-kept.kept.items in
+    omega (arith, same, least)

@@ -6,12 +6,13 @@ use Rattle.agglo_model.specs.Greedy.{Merge}
 use Rattle.mutual_merge.specs.declared.links.Link.{Link}
 use Rattle.mutual_merge.specs.Linked.{AreLinked, graph_of}
 use Rattle.mutual_merge.specs.Pairs.{IsPairing, merge_of}
-use Rattle.mutual_merge.specs.Merged.{AreMerged}
+use Rattle.mutual_merge.specs.Merged.{AreMerged, AreMutual}
 use Rattle.mutual_merge.specs.Trimmed.{AreTrimmed}
-use Rattle.mutual_merge.proofs.TrimmedGraphs.{Carries, carries_trimmed, carries_round, carries_end}
+use Rattle.mutual_merge.specs.Rounds.{Carries, HasMerged}
+use Rattle.mutual_merge.proofs.TrimmedGraphs.{carries_trimmed, carries_round}
 use Rattle.mutual_merge.proofs.PairRounds.{AreMutual-pairing, linked_graph, pairs_lead, fewer_regions, none_reciprocal}
-use Rattle.mutual_merge.proofs.settling.merge_all.Goals as goal
-use Rattle.mutual_merge.proofs.settling.merge_all.Goals.{After-is_empty, In_ok-graph-2}
+use Rattle.mutual_merge.proofs.settling.merge_rounds.Goals as goal
+use Rattle.mutual_merge.proofs.settling.merge_rounds.Goals.{After-is_empty, In_ok-graph-2}
 
 -- the merges so far make the graph without the regions that were let go
 trimmed_carries : (c : After-is_empty) → Carries c.args.threshold.now c.args.frozen
@@ -29,8 +30,8 @@ pairing_is : (c : After-is_empty) → IsPairing c.args.threshold.now c.args.froz
 pairing_is c =
     let mates : List ℕ = c.in_ok-pairing.pairing.mates.items in
     let pairs : List Link = c.in_ok-pairing.pairing.pairs.items in
-    subst (λ rs. IsPairing c.args.threshold.now c.args.frozen rs c.in_ok-graph.graph.links.items mates pairs) c.deref.ensures.value
-    (subst (λ ls. IsPairing c.args.threshold.now c.args.frozen c.deref.result.now ls mates pairs) c.deref-in-loop-merges.ensures.value
+    subst (λ rs. IsPairing c.args.threshold.now c.args.frozen rs c.in_ok-graph.graph.links.items mates pairs) c.deref-in-loop-merges.ensures.value
+    (subst (λ ls. IsPairing c.args.threshold.now c.args.frozen c.deref-in-loop-merges.result.now ls mates pairs) c.deref-in-loop-merges-2.ensures.value
     c.in_ok-pairing.ensures)
 
 is_zero : (n : ℕ) → true ≡ eqb n 0 → n ≡ 0
@@ -39,31 +40,36 @@ is_zero n test = grind (arith, nat_tests)
 is_some : (n : ℕ) → false ≡ eqb n 0 → 0 < n
 is_some n test = grind (arith, nat_tests)
 
-pub returns-then-is_empty : goal.returns-then-is_empty
-returns-then-is_empty c =
-    let pairing = pairing_is (goal.at.returns-then-is_empty c).After-is_empty in
+-- the trimmed graph, and the merges so far
+pub merged_so_far : (c : After-is_empty) → HasMerged c.args.threshold.now c.args.frozen c.args.start.regions.items c.args.start.links.items
+    c.loop-merges.merges.items c.in_ok-graph.graph.regions.items c.in_ok-graph.graph.links.items
+merged_so_far c =
+    let before = c.loop-merges.invariant.fewer in
+    let after = c.in_ok-graph.ensures.fewer in
+    record { linked = c.in_ok-graph.ensures.linked; fewer = omega (arith, before, after); carries = trimmed_carries c }
+
+pub returns-then-is_empty-clause-merged : goal.returns-then-is_empty-clause-merged
+returns-then-is_empty-clause-merged c = merged_so_far (goal.at.returns-then-is_empty-clause-merged c).After-is_empty
+
+pub returns-then-is_empty-clause-settled : goal.returns-then-is_empty-clause-settled
+returns-then-is_empty-clause-settled c none_resting =
+    let pairing = pairing_is (goal.at.returns-then-is_empty-clause-settled c).After-is_empty in
     let pairs = c.in_ok-pairing.pairing.pairs in
     let none : length pairs.items ≡ 0 = sym pairs.ok.0 ∙ is_zero pairs.len c.if-is_empty.ensures in
-    let regions : List Region = c.in_ok-graph.graph.regions.items in
-    let links : List Link = c.in_ok-graph.graph.links.items in
-    let none_left = none_reciprocal c.args.threshold.now c.args.frozen regions links c.in_ok-pairing.pairing.mates.items pairs.items
-    c.in_ok-graph.ensures.linked pairing none in
-    record {
-      linked = c.in_ok-graph.ensures.linked;
-      settles = λ left is_left.
-          carries_end c.args.threshold.now c.args.frozen (graph_of c.args.start.regions.items c.args.start.links.items)
-          (graph_of regions links) left c.loop-merges.merges.items (trimmed_carries (goal.at.returns-then-is_empty c).After-is_empty)
-          none_left is_left;
-    }
+    none_reciprocal c.args.threshold.now c.args.frozen c.in_ok-graph.graph.regions.items c.in_ok-graph.graph.links.items
+    c.in_ok-pairing.pairing.mates.items pairs.items c.in_ok-graph.ensures.linked pairing none
+
+pub returns-then-is_some-clause-merged : goal.returns-then-is_some-clause-merged
+returns-then-is_some-clause-merged c = merged_so_far (goal.at.returns-then-is_some-clause-merged c).After-is_empty
 
 merged_is : (c : In_ok-graph-2) → AreMerged c.in_ok-graph.graph.regions.items c.in_ok-graph.graph.links.items
     c.in_ok-pairing.pairing.mates.items c.in_ok-graph-2.graph.regions.items c.in_ok-graph-2.graph.links.items
 merged_is c =
     let kept : List Region = c.in_ok-graph-2.graph.regions.items in
     let joined : List Link = c.in_ok-graph-2.graph.links.items in
-    subst (λ rs. AreMerged rs c.in_ok-graph.graph.links.items c.in_ok-pairing.pairing.mates.items kept joined) c.deref-in-loop-merges-4.ensures.value
-    (subst (λ ls. AreMerged c.deref-in-loop-merges-4.result.now ls c.in_ok-pairing.pairing.mates.items kept joined) c.deref-in-loop-merges-5.ensures.value
-    (subst (λ ms. AreMerged c.deref-in-loop-merges-4.result.now c.deref-in-loop-merges-5.result.now ms kept joined) c.deref-in-loop-merges-6.ensures.value
+    subst (λ rs. AreMerged rs c.in_ok-graph.graph.links.items c.in_ok-pairing.pairing.mates.items kept joined) c.deref-in-loop-merges-6.ensures.value
+    (subst (λ ls. AreMerged c.deref-in-loop-merges-6.result.now ls c.in_ok-pairing.pairing.mates.items kept joined) c.deref-in-loop-merges-7.ensures.value
+    (subst (λ ms. AreMerged c.deref-in-loop-merges-6.result.now c.deref-in-loop-merges-7.result.now ms kept joined) c.deref-in-loop-merges-8.ensures.value
     c.in_ok-graph-2.ensures))
 
 pub loop-merges-smaller : goal.loop-merges-smaller
@@ -92,9 +98,13 @@ loop-merges-preserved c =
     let start = graph_of c.args.start.regions.items c.args.start.links.items in
     let noted : c.note_merges.new.merges.items ≡ c.loop-merges.merges.items ++ map (merge_of regions) pairs.items =
     c.in_ok-note_merges.ensures
-    ∙ (λ i. c.loop-merges.merges.items ++ map (merge_of (c.deref-in-loop-merges-2.ensures.value i)) (c.deref-in-loop-merges-3.ensures.value i)) in
+    ∙ (λ i. c.loop-merges.merges.items ++ map (merge_of (c.deref-in-loop-merges-4.ensures.value i)) (c.deref-in-loop-merges-5.ensures.value i)) in
+    let before = c.loop-merges.invariant.fewer in
+    let after = c.in_ok-graph.ensures.fewer in
+    let least = merged.fewer in
     record {
       linked = merged.linked;
+      fewer = omega (arith, before, after, least);
       carries = subst (λ ms. Carries t c.args.frozen start ms (graph_of kept joined)) (sym noted)
           (carries_round t c.args.frozen start (graph_of regions links) (graph_of kept joined) c.loop-merges.merges.items
           (map (merge_of regions) pairs.items)
@@ -102,3 +112,13 @@ loop-merges-preserved c =
           c.in_ok-graph.ensures.linked pairing merged some)
           (trimmed_carries (goal.at.loop-merges-preserved c).After-is_empty));
     }
+
+pub merge_mates-requires-clause-back : goal.merge_mates-requires-clause-back
+merge_mates-requires-clause-back c =
+    let regions : List Region = c.in_ok-graph.graph.regions.items in
+    let mates : List ℕ = c.in_ok-pairing.pairing.mates.items in
+    let pairing = pairing_is (goal.at.merge_mates-requires-clause-back c).After-is_empty in
+    subst (λ ms. AreMutual ms (length c.deref-in-loop-merges-6.result.now)) (sym c.deref-in-loop-merges-8.ensures.value)
+    (subst (λ rs. AreMutual mates (length rs)) (sym c.deref-in-loop-merges-6.ensures.value)
+    (AreMutual-pairing c.args.threshold.now c.args.frozen regions c.in_ok-graph.graph.links.items mates
+    c.in_ok-pairing.pairing.pairs.items c.in_ok-graph.ensures.linked pairing))
