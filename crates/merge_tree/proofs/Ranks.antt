@@ -6,23 +6,23 @@ use Rattle.std.specs.List.Sorted.{IsSortedBy}
 use Rattle.std.proofs.Math.Nat.{mul-le-mul_right, le_of_mul-le-mul_left}
 use Rattle.std.proofs.lemmas.Bool.Decides.{nat_tests}
 use Rattle.std.proofs.lemmas.List.Sorted.{All-permutation, sorted_far}
-use Rattle.agglo_model.specs.Greedy.{Merge}
+use Rattle.agglo_model.specs.Greedy.{Merge, RanksFirst}
 use Rattle.agglo_model.specs.MergeLaws.{AreFalling}
-use Rattle.merge_tree.specs.Order.{ComesFirst, DifferInRank, HasEdges, goes_first}
+use Rattle.merge_tree.specs.Order.{DifferInRank, HasEdges, goes_first}
 use Rattle.merge_tree.proofs.Reordered.{AllPairs-permutation}
 
 -- the test says what it means, where both have an edge
-before_is_first : (m n : Merge) → HasEdges m → HasEdges n → ComesFirst m n → goes_first m n ≡ true
+before_is_first : (m n : Merge) → HasEdges m → HasEdges n → RanksFirst m n → goes_first m n ≡ true
 unfolding goes_first
 before_is_first m n some some' (inl h) = grind (arith, nat_tests)
 before_is_first m n some some' (inr h) = grind (arith, nat_tests)
 
-first_is_before : (m n : Merge) → HasEdges m → HasEdges n → goes_first m n ≡ true → ComesFirst m n
+first_is_before : (m n : Merge) → HasEdges m → HasEdges n → goes_first m n ≡ true → RanksFirst m n
 unfolding goes_first
 first_is_before m n some some' h = grind (arith, nat_tests)
 
 -- a comparison that answers by pair order answers by the test
-pub less_is_first : (m n : Merge) (r : Ordering) → HasEdges m → HasEdges n → (r ≡ Less → ComesFirst m n) → (ComesFirst m n → r ≡ Less)
+pub less_is_first : (m n : Merge) (r : Ordering) → HasEdges m → HasEdges n → (r ≡ Less → RanksFirst m n) → (RanksFirst m n → r ≡ Less)
     → is_lt r ≡ goes_first m n
 less_is_first m n r some some' says meets =
     elim (goes_first m n) as (λ b. goes_first m n ≡ b → is_lt r ≡ b) [
@@ -107,7 +107,7 @@ pub first_order : IsStrictWeakOrder goes_first
 first_order = record { one_way = one_way; chain = chain }
 
 -- two merges of different rank, the second of which does not go first
-comes_first : (m n : Merge) → HasEdges n → DifferInRank m n → goes_first n m ≡ false → ComesFirst m n
+comes_first : (m n : Merge) → HasEdges n → DifferInRank m n → goes_first n m ≡ false → RanksFirst m n
 comes_first m n some differ h =
     let back = is_not_before n m some h in
     elim (less_or_same (n.contact.sum * m.contact.count) (m.contact.sum * n.contact.count) back.mean) [
@@ -126,7 +126,7 @@ comes_first m n some differ h =
 
 -- a list sorted by the test is in pair order, where no two of it rank the same
 pub all_falling : (given sorted : List Merge) → All HasEdges given → AllPairs DifferInRank given → IsPermutation given sorted
-    → IsSortedBy goes_first sorted → AllPairs ComesFirst sorted
+    → IsSortedBy goes_first sorted → AllPairs RanksFirst sorted
 all_falling given sorted some differ moved up =
     let some' : All HasEdges sorted = All-permutation HasEdges given sorted moved some in
     let differ' : AllPairs DifferInRank sorted = AllPairs-permutation DifferInRank differ_back given sorted moved differ in
@@ -136,5 +136,5 @@ all_falling given sorted some differ moved up =
     differ_back : (m n : Merge) → DifferInRank m n → DifferInRank n m
     differ_back m n h = λ same. h (record { mean = sym same.mean; tie = sym same.tie })
 
-pub falling : (sorted : List Merge) → AllPairs ComesFirst sorted → AreFalling sorted
+pub falling : (sorted : List Merge) → AllPairs RanksFirst sorted → AreFalling sorted
 falling sorted pairs = λ k d below. pairs k (k + 1) d (omega arith) below

@@ -1,7 +1,8 @@
 ghost use Rattle.std.specs.Prelude.{◌≡◌, IfOk, IsOk, All, AllPairs, IsPermutation};
 ghost use Rattle.std.specs.Ordering.{is_lt};
+ghost use Rattle.agglo_model.specs.Greedy.{RanksFirst};
 ghost use Rattle.agglo_model.specs.MergeLaws.{AreFalling};
-ghost use Rattle.merge_tree.specs.Order.{goes_first, HasEdges, DifferInRank, ComesFirst};
+ghost use Rattle.merge_tree.specs.Order.{goes_first, HasEdges, DifferInRank};
 
 use crate::merge::Merge;
 use agglo_model::Memory;
@@ -16,7 +17,7 @@ pub fn in_order(_alloc: Global, merges: Vec<Merge>) -> Result<Vec<Merge>, Memory
     ensures always { IsOk result }
     ensures same_merges { IfOk result (λ sorted. IsPermutation merges.items sorted.items) }
     ensures falling { IfOk result (λ sorted. AreFalling sorted.items) }
-    ensures each_first { IfOk result (λ sorted. AllPairs ComesFirst sorted.items) }
+    ensures each_first { IfOk result (λ sorted. AllPairs RanksFirst sorted.items) }
 {
     have_edges(&merges);
     let mut sorted = merges;

@@ -1,5 +1,5 @@
 -- The contacts of graph edges have no more edges of the grid than there are to be counted.
-use Rattle.std.proofs.Common.{◌≡◌, ◌≢◌, inl, inr, ℕ, suc, ◌+◌, ◌<◌, ◌≤◌, Bool, true, false, ◌&&◌, ◌||◌, List, [], ◌∷◌, ◌++◌, length, get_or, count_by, refl, ap, ◌∙◌, subst, arith}
+use Rattle.std.proofs.Common.{◌≡◌, inl, inr, ℕ, suc, ◌+◌, ◌<◌, ◌≤◌, Bool, true, false, ◌&&◌, ◌||◌, List, [], ◌∷◌, ◌++◌, length, get_or, count_by, refl, ap, ◌∙◌, subst, arith}
 use Rattle.std.specs.Prelude.{AllPairs, Contains}
 use Rattle.std.proofs.lemmas.Bool.{and_parts}
 use Rattle.std.proofs.lemmas.Bool.Decides.{nat_tests}
@@ -16,7 +16,6 @@ use Rattle.agglo_model.specs.Freezing.{is_inside}
 use Rattle.agglo_model.specs.Work.{IsPassed}
 use Rattle.agglo_model.specs.RegionGraph.{GraphEdge, RegionGraph, IsGraphOfNames, StandsBefore, grid_edges, residue_of}
 use Rattle.agglo_model.specs.Joining.{edges_inside, is_crossing, kept_edges}
-use Rattle.agglo_model.proofs.Members.{All-from_contains}
 use Rattle.region_graph.specs.Lists.{count_of}
 use Rattle.work_laws.proofs.Tests.{both_apart}
 use Rattle.work_laws.proofs.ChildEdges.{inside_from, children_apart, crossing_apart}
@@ -70,7 +69,6 @@ pairs_count g labels test es ascend ordered each =
 pub names_fit : (Keeps : ℕ → Type 0) (g : Grid) (c : Chunking) (m : ℕ) (labels : List ℕ) (graph : RegionGraph)
     → IsGraphOfNames Keeps g c m labels graph → FitsInto g c m graph
 names_fit Keeps g c m labels graph is = record {
-  named = All-from_contains (λ r. r.name ≢ 0) graph.regions (λ r inside. ((is.regions r).0 inside).0);
   few = pairs_count g labels (is_inside c m) graph.edges is.graph_is.edges_ascend is.graph_is.ordered (λ e inside.
       let contact = (is.edges e).0 inside in
       let same = ap (λ d. d.count) contact.4 in omega arith);

@@ -1,5 +1,5 @@
 -- Lists that were gathered of a node's children and across the faces between them make its joined graph.
-use Rattle.std.proofs.Common.{◌≡◌, ◌≢◌, ◌⊎◌, inl, inr, ℕ, suc, ◌+◌, ◌<◌, ◌≤◌, Bool, true, false, cond, not, ◌&&◌, List, [], ◌∷◌, ◌++◌, length, count_by, refl, sym, ap, ◌∙◌, subst, arith}
+use Rattle.std.proofs.Common.{◌≡◌, ◌⊎◌, inl, inr, ℕ, suc, ◌+◌, ◌<◌, ◌≤◌, Bool, true, false, cond, not, ◌&&◌, List, [], ◌∷◌, ◌++◌, length, count_by, refl, sym, ap, ◌∙◌, subst, arith}
 use Rattle.std.specs.Prelude.{All, AllPairs, Contains, filter}
 use Rattle.std.proofs.lemmas.Bool.{cases_Bool, and_parts, and_from, false≢true}
 use Rattle.std.proofs.lemmas.List.Elements.{All-append, All-contains, All-filter, Contains-append_cases}
@@ -15,10 +15,10 @@ use Rattle.agglo_model.proofs.GraphContacts.{same_contact, joint-count, joint-no
 use Rattle.agglo_model.proofs.GraphEdges.{between_itself, between_names}
 use Rattle.agglo_model.proofs.Members.{contains_none, All-from_contains}
 use Rattle.agglo_model.proofs.Totals.{total-tie}
-use Rattle.region_graph.specs.Lists.{AreNamed, AreOrdered, AreTouching, SameContacts, SameRegions, count_of, faces_in}
+use Rattle.region_graph.specs.Lists.{AreOrdered, AreTouching, SameContacts, SameRegions, count_of}
 use Rattle.region_graph.proofs.CellGraphs.{faces_of}
 use Rattle.work_laws.proofs.AddedContacts.{listed}
-use Rattle.work_laws.proofs.KeptRegions.{kept_from, from_kept, named_region, region_named}
+use Rattle.work_laws.proofs.KeptRegions.{from_kept, named_region, region_named}
 use Rattle.parent_join.specs.Across.{across, are_named}
 use Rattle.parent_join.specs.Kids.{KidsFit}
 use Rattle.parent_join.proofs.AnyPast.{contact_at}
@@ -168,7 +168,7 @@ module _ (g : Grid) (c : Chunking) (m : ℕ) (labels : List ℕ) (kids : List Re
   region_there r named faces =
       let found = region_named_so r.name named in
       let s = found.0 in
-      let same_faces : s.faces ≡ r.faces = sym (faces_of regions s are.regions_ascend found.1) ∙ ap (faces_in regions) found.2
+      let same_faces : s.faces ≡ r.faces = sym (faces_of regions s are.regions_ascend found.1) ∙ ap (joined_faces regions) found.2
       ∙ are.same_regions.faces r.name ∙ sym faces in
       subst (Contains regions) (λ i. record { name = found.2 i; faces = same_faces i }) found.1
 
@@ -184,17 +184,6 @@ module _ (g : Grid) (c : Chunking) (m : ℕ) (labels : List ℕ) (kids : List Re
     );
     contacts = λ past x y _. contacts_are past x y;
   }
-
--- ---- names
-
--- where no child has background as a name, no kept region has
-pub kept_named : (c : Chunking) (m : ℕ) (kids : List RegionGraph)
-    → ((k : ℕ) → k < length kids → AreNamed (residue_of kids k).regions) → AreNamed (kept_regions c m 0 kids)
-kept_named c m kids named = All-from_contains (λ r. r.name ≢ 0) (kept_regions c m 0 kids) (λ r inside.
-    let from = kept_from c m 0 kids r inside in
-    let name : from.region.name ≡ r.name = ap (λ (s : Region). s.name) from.becomes in
-    subst (λ n. n ≢ 0) name
-    (All-contains (λ s. s.name ≢ 0) (residue_of kids from.kid).regions from.region (named from.kid from.below) from.there))
 
 -- what holds of each graph of a list
 pub graphs_at : (kids : List RegionGraph) → All IsGraph kids → AreGraphs kids

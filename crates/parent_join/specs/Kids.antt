@@ -6,14 +6,12 @@ use Rattle.agglo_model.specs.Cutting.{Chunking, child, face_bits}
 use Rattle.agglo_model.specs.RegionGraph.{Region, RegionGraph, IsResidue, grid_edges, residue_of}
 use Rattle.agglo_model.specs.Joining.{edges_inside}
 use Rattle.region_graph.specs.declared.graph.Residue.{Residue}
-use Rattle.region_graph.specs.Lists.{AreNamed}
 
 abbrev pub graphs_of : List Residue → List RegionGraph
 graphs_of kids = map (λ kid. kid.graph) kids
 
--- no name is background, and the contacts have at most as many edges of the grid as lie inside the cell of node m
+-- the contacts have at most as many edges of the grid as lie inside the cell of node m
 pub record FitsInto (g : Grid) (c : Chunking) (m : ℕ) (graph : RegionGraph) : Type 0 where
-  pub named : AreNamed graph.regions
   pub few : grid_edges graph ≤ edges_inside g c m
 
 -- so it is of the graph of each child of node m

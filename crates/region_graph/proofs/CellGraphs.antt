@@ -9,6 +9,7 @@ use Rattle.std.proofs.lemmas.List.Folds.{Any-from_list_any, list_any-from_Any}
 use Rattle.agglo_model.specs.Axes.{edge_count, lower_end, higher_end}
 use Rattle.agglo_model.specs.Basins.{label_of}
 use Rattle.agglo_model.specs.Grid.{Grid}
+use Rattle.agglo_model.specs.Joining.{is_named, joined_faces}
 use Rattle.agglo_model.specs.PairOrder.{Contact, added}
 use Rattle.agglo_model.specs.Contacts.{are, is_contact_edge, joins, lower_label, higher_label, total}
 use Rattle.agglo_model.specs.Cutting.{Chunking}
@@ -20,8 +21,8 @@ use Rattle.agglo_model.proofs.GraphContacts.{same_contact, joint-count, contact_
 use Rattle.agglo_model.proofs.GraphEdges.{between_itself, edge_contact, edge_of_contact}
 use Rattle.agglo_model.proofs.RegionLists.{Ascend, one_region}
 use Rattle.agglo_model.proofs.Totals.{total-tie}
-use Rattle.region_graph.specs.Lists.{AreNamed, AreOrdered, AreTouching, SameContacts, SameRegions, has_name, faces_in}
-use Rattle.region_graph.proofs.RegionLists.{has_bit, names_face, same_by_bits, faces_in-bit}
+use Rattle.region_graph.specs.Lists.{AreNamed, AreOrdered, AreTouching, SameContacts, SameRegions}
+use Rattle.region_graph.proofs.RegionLists.{has_bit, names_face, same_by_bits, joined_faces-bit}
 use Rattle.region_graph.proofs.VoxelTests.{same_tests}
 
 -- ---- regions by name
@@ -32,18 +33,18 @@ any_from p xs x (k, below, same) pass = list_any-from_Any p xs (k, x, below, sam
 itself : (n : ℕ) → eqb n n ≡ true
 itself n = grind (arith, nat_tests)
 
-named_there : (rs : List Region) (x : ℕ) → has_name rs x ≡ true → (r : Region) × Contains rs r × (r.name ≡ x)
+named_there : (rs : List Region) (x : ℕ) → is_named rs x ≡ true → (r : Region) × Contains rs r × (r.name ≡ x)
 named_there rs x pass =
     let found = Any-from_list_any (λ (r : Region). eqb r.name x) rs pass in
     (found.1, (found.0, found.2, found.3), eqb-true found.1.name x found.4)
 
-there_named : (rs : List Region) (r : Region) → Contains rs r → has_name rs r.name ≡ true
+there_named : (rs : List Region) (r : Region) → Contains rs r → is_named rs r.name ≡ true
 there_named rs r inside = any_from (λ (s : Region). eqb s.name r.name) rs r inside (itself r.name)
 
 -- where each name stands once, its faces are those of its region
-pub faces_of : (rs : List Region) (r : Region) → Ascend rs → Contains rs r → faces_in rs r.name ≡ r.faces
-faces_of rs r ascend inside = same_by_bits (faces_in rs r.name) r.faces (λ i.
-    faces_in-bit rs r.name i
+pub faces_of : (rs : List Region) (r : Region) → Ascend rs → Contains rs r → joined_faces rs r.name ≡ r.faces
+faces_of rs r ascend inside = same_by_bits (joined_faces rs r.name) r.faces (λ i.
+    joined_faces-bit rs r.name i
     ∙ same_tests (list_any (names_face r.name i) rs) (has_bit r.faces i)
     (λ pass.
     let found = Any-from_list_any (names_face r.name i) rs pass in
@@ -57,8 +58,8 @@ faces_of rs r ascend inside = same_by_bits (faces_in rs r.name) r.faces (λ i.
 pub record IsGathered (g : Grid) (c : Chunking) (m : ℕ) (labels : List ℕ) (regions : List Region) (edges : List GraphEdge) : Type 0 where
   pub regions_ascend : AllPairs (λ r s. r.name < s.name) regions
   pub named : AreNamed regions
-  pub names : (x : ℕ) → x ≢ 0 → has_name regions x ≡ occurs_in c m labels x
-  pub faces : (x : ℕ) → x ≢ 0 → faces_in regions x ≡ touched_faces c m labels x
+  pub names : (x : ℕ) → x ≢ 0 → is_named regions x ≡ occurs_in c m labels x
+  pub faces : (x : ℕ) → x ≢ 0 → joined_faces regions x ≡ touched_faces c m labels x
   pub edges_ascend : AllPairs StandsBefore edges
   pub ordered : AreOrdered edges
   pub touching : AreTouching edges
@@ -66,8 +67,8 @@ pub record IsGathered (g : Grid) (c : Chunking) (m : ℕ) (labels : List ℕ) (r
 
 -- what two passes found in the cell
 pub record IsFound (g : Grid) (c : Chunking) (m : ℕ) (labels : List ℕ) (regions : List Region) (edges : List GraphEdge) : Type 0 where
-  pub names : (x : ℕ) → x ≢ 0 → has_name regions x ≡ occurs_in c m labels x
-  pub faces : (x : ℕ) → x ≢ 0 → faces_in regions x ≡ touched_faces c m labels x
+  pub names : (x : ℕ) → x ≢ 0 → is_named regions x ≡ occurs_in c m labels x
+  pub faces : (x : ℕ) → x ≢ 0 → joined_faces regions x ≡ touched_faces c m labels x
   pub contacts : (x y : ℕ) → contact_in (edge_count g.axes) edges x y ≡ between_inside g c m labels x y
 
 -- lists in order that say the same
@@ -205,7 +206,7 @@ region_there : (g : Grid) (c : Chunking) (m : ℕ) (labels : List ℕ) (regions 
 region_there g c m labels regions edges r all name occurs faces =
     let found = named_there regions r.name (all.names r.name name ∙ occurs) in
     let s = found.0 in
-    let same_faces : s.faces ≡ r.faces = sym (faces_of regions s all.regions_ascend found.1) ∙ ap (faces_in regions) found.2
+    let same_faces : s.faces ≡ r.faces = sym (faces_of regions s all.regions_ascend found.1) ∙ ap (joined_faces regions) found.2
     ∙ all.faces r.name name ∙ sym faces in
     subst (Contains regions) (same_regions s r found.2 same_faces) found.1
 

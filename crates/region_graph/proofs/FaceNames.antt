@@ -9,10 +9,11 @@ use Rattle.agglo_model.specs.Axes.{voxel_count, coordinate}
 use Rattle.agglo_model.specs.Basins.{label_of}
 use Rattle.agglo_model.specs.Cutting.{Chunking, IsChunking, length_on, node_count, cell_low, cell_high, is_low_artificial, is_high_artificial, face_bits, low_corner, high_corner}
 use Rattle.agglo_model.specs.Freezing.{is_held, is_part, some_voxel, occurs_in, touches_low, touches_high, touched_faces}
+use Rattle.agglo_model.specs.Joining.{is_named, joined_faces}
 use Rattle.agglo_model.specs.RegionGraph.{Region}
 use Rattle.agglo_model.proofs.Edges.{each_axis}
 use Rattle.agglo_model.proofs.Freezing.{held_voxel, some_voxel_from, some_voxel_is, part_held}
-use Rattle.region_graph.specs.Lists.{AreNamed, has_name, faces_in}
+use Rattle.region_graph.specs.Lists.{AreNamed}
 use Rattle.region_graph.specs.Boxes.{GainsNames, GainsFaces, in_box, name_among, lowest_to, highest_from}
 use Rattle.region_graph.proofs.Layers.{cell_is_box, cell_held, lowest_in, highest_in}
 
@@ -138,8 +139,8 @@ high_occurs c m labels x axis pass =
 
 pub record AreFacesNamed (c : Chunking) (m : ℕ) (labels : List ℕ) (k : ℕ) (now : List Region) : Type 0 where
   pub named : AreNamed now
-  pub names : (x : ℕ) → x ≢ 0 → has_name now x ≡ occurs_in c m labels x
-  pub faces : (x : ℕ) → x ≢ 0 → faces_in now x ≡ faces_to (touches_low c m labels x) (touches_high c m labels x) k
+  pub names : (x : ℕ) → x ≢ 0 → is_named now x ≡ occurs_in c m labels x
+  pub faces : (x : ℕ) → x ≢ 0 → joined_faces now x ≡ faces_to (touches_low c m labels x) (touches_high c m labels x) k
 
 same_either : (b : Bool) (n : ℕ) → cond b n n ≡ n
 same_either true n = refl
@@ -174,7 +175,7 @@ faces-more c m labels k now after h node three so_far gained =
           ∙ known_too (occurs_in c m labels x) (low x) (high x) (low_occurs c m labels x k) (high_occurs c m labels x k);
       faces = λ x name.
           let n = faces_to (touches_low c m labels x) (touches_high c m labels x) k in
-          let before : faces_in gained.between x ≡ cond (low x) (bit_or n (4 ^ k)) n =
+          let before : joined_faces gained.between x ≡ cond (low x) (bit_or n (4 ^ k)) n =
           gained.low.with_faces x name
           ∙ (λ i. cond (among_lowest c h m node labels x k three i) (bit_or (so_far.faces x name i) (4 ^ k)) (so_far.faces x name i)) in
           gained.high.with_faces x name
@@ -184,5 +185,5 @@ faces-more c m labels k now after h node three so_far gained =
     }
 
 pub faces-all : (c : Chunking) (m : ℕ) (labels : List ℕ) (now : List Region) → AreFacesNamed c m labels 3 now
-    → (x : ℕ) → x ≢ 0 → faces_in now x ≡ touched_faces c m labels x
+    → (x : ℕ) → x ≢ 0 → joined_faces now x ≡ touched_faces c m labels x
 faces-all c m labels now all x name = all.faces x name ∙ all_faces (touches_low c m labels x) (touches_high c m labels x)

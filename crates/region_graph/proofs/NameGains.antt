@@ -11,8 +11,9 @@ use Rattle.std.proofs.lemmas.List.FromFn.{length-range_with_len, get_or-range_wi
 use mathlib.Core.Path.{fun_ext}
 use Rattle.agglo_model.specs.Axes.{Axes, voxel_count}
 use Rattle.agglo_model.specs.Basins.{label_of}
+use Rattle.agglo_model.specs.Joining.{is_named, joined_faces}
 use Rattle.agglo_model.specs.RegionGraph.{Region}
-use Rattle.region_graph.specs.Lists.{AreNamed, SameRegions, has_name, faces_in}
+use Rattle.region_graph.specs.Lists.{AreNamed, SameRegions}
 use Rattle.region_graph.specs.Boxes.{GainsNames, in_run, name_among}
 use Rattle.region_graph.proofs.RegionLists.{has_bit, has_bit-or, same_by_bits}
 use Rattle.region_graph.proofs.VoxelTests.{same_tests}
@@ -86,9 +87,9 @@ pub names-same : (a : Axes) (labels : List ℕ) (p q : ℕ → Bool) (faces : �
     → GainsNames a labels p faces es fs → GainsNames a labels q faces es fs
 names-same a labels p q faces es fs same gained = record {
   named = gained.named;
-  names = λ x name. gained.names x name ∙ ap (λ b. has_name es x || b) (same x name);
+  names = λ x name. gained.names x name ∙ ap (λ b. is_named es x || b) (same x name);
   with_faces = λ x name. gained.with_faces x name
-      ∙ ap (λ b. cond b (bit_or (faces_in es x) faces) (faces_in es x)) (same x name);
+      ∙ ap (λ b. cond b (bit_or (joined_faces es x) faces) (joined_faces es x)) (same x name);
 }
 
 pub names-test : (a : Axes) (labels : List ℕ) (p q : ℕ → Bool) (faces : ℕ) (es fs : List Region) → ((v : ℕ) → p v ≡ q v)
@@ -113,8 +114,8 @@ pub names-nothing : (a : Axes) (labels : List ℕ) (test : ℕ → Bool) (faces 
     → ((v : ℕ) → test v ≡ false) → GainsNames a labels test faces es es
 names-nothing a labels test faces es fails = record {
   named = λ named. named;
-  names = λ x name. or_nothing (has_name es x) ∙ ap (λ b. has_name es x || b) (sym (none x));
-  with_faces = λ x name. ap (λ b. cond b (bit_or (faces_in es x) faces) (faces_in es x)) (sym (none x));
+  names = λ x name. or_nothing (is_named es x) ∙ ap (λ b. is_named es x || b) (sym (none x));
+  with_faces = λ x name. ap (λ b. cond b (bit_or (joined_faces es x) faces) (joined_faces es x)) (sym (none x));
 }
   where
     none : (x : ℕ) → name_among a labels test x ≡ false
@@ -149,13 +150,13 @@ names-both a labels p q faces es fs gs one other = record {
   named = λ named. other.named (one.named named);
   names = λ x name.
       other.names x name ∙ ap (λ b. b || name_among a labels q x) (one.names x name)
-      ∙ or_together (has_name es x) (name_among a labels p x) (name_among a labels q x)
-      ∙ ap (λ b. has_name es x || b) (sym (among-either a labels p q x));
+      ∙ or_together (is_named es x) (name_among a labels p x) (name_among a labels q x)
+      ∙ ap (λ b. is_named es x || b) (sym (among-either a labels p q x));
   with_faces = λ x name.
       other.with_faces x name
       ∙ ap (λ f. cond (name_among a labels q x) (bit_or f faces) f) (one.with_faces x name)
-      ∙ faces_twice (name_among a labels p x) (name_among a labels q x) (faces_in es x) faces
-      ∙ ap (λ b. cond b (bit_or (faces_in es x) faces) (faces_in es x)) (sym (among-either a labels p q x));
+      ∙ faces_twice (name_among a labels p x) (name_among a labels q x) (joined_faces es x) faces
+      ∙ ap (λ b. cond b (bit_or (joined_faces es x) faces) (joined_faces es x)) (sym (among-either a labels p q x));
 }
 
 -- ---- one voxel
@@ -166,14 +167,14 @@ or_last false true = refl
 or_last false false = refl
 
 faces_push : (es : List Region) (r : Region) (x : ℕ) (b : Bool) → eqb r.name x ≡ b
-    → faces_in (es ++ r ∷ []) x ≡ cond b (bit_or (faces_in es x) r.faces) (faces_in es x)
+    → joined_faces (es ++ r ∷ []) x ≡ cond b (bit_or (joined_faces es x) r.faces) (joined_faces es x)
 faces_push es r x b is =
     ap (λ rs. fold bit_or 0 (map (λ (s : Region). s.faces) rs)) (filter-append (λ (s : Region). eqb s.name x) es (r ∷ []))
     ∙ step b is
   where
     step : (b : Bool) → eqb r.name x ≡ b
         → fold bit_or 0 (map (λ (s : Region). s.faces) (filter (λ (s : Region). eqb s.name x) es ++ cond (eqb r.name x) (r ∷ []) []))
-        ≡ cond b (bit_or (faces_in es x) r.faces) (faces_in es x)
+        ≡ cond b (bit_or (joined_faces es x) r.faces) (joined_faces es x)
     step true is =
         let kept = filter (λ (s : Region). eqb s.name x) es in
         (λ i. fold bit_or 0 (map (λ (s : Region). s.faces) (kept ++ cond (is i) (r ∷ []) [])))
@@ -190,10 +191,10 @@ names-voxel a labels k faces es below some =
     let r : Region = record { name = label_of labels k; faces = faces } in
     record {
       named = λ named. All-push (λ s. s.name ≢ 0) es r named some;
-      names = λ x name. list_any-append (λ s. eqb s.name x) es (r ∷ []) ∙ or_last (has_name es x) (eqb r.name x)
-          ∙ ap (λ b. has_name es x || b) (sym (among-one a labels k x below));
+      names = λ x name. list_any-append (λ s. eqb s.name x) es (r ∷ []) ∙ or_last (is_named es x) (eqb r.name x)
+          ∙ ap (λ b. is_named es x || b) (sym (among-one a labels k x below));
       with_faces = λ x name. faces_push es r x (eqb r.name x) refl
-          ∙ ap (λ b. cond b (bit_or (faces_in es x) faces) (faces_in es x)) (sym (among-one a labels k x below));
+          ∙ ap (λ b. cond b (bit_or (joined_faces es x) faces) (joined_faces es x)) (sym (among-one a labels k x below));
     }
 
 -- ---- a run of voxels

@@ -8,8 +8,9 @@ use Rattle.std.proofs.lemmas.Bool.Decides.{nat_tests}
 use Rattle.std.proofs.lemmas.Nat.Bits.{bit_at_or, bit_at-lt, bit_at-zero, same_from_bits}
 use Rattle.std.proofs.lemmas.List.Folds.{list_any-append}
 use Rattle.std.proofs.lemmas.List.Sorted.{list_any-IsPermutation}
+use Rattle.agglo_model.specs.Joining.{is_named, joined_faces}
 use Rattle.agglo_model.specs.RegionGraph.{Region}
-use Rattle.region_graph.specs.Lists.{has_name, faces_in, SameRegions}
+use Rattle.region_graph.specs.Lists.{SameRegions}
 
 -- whether bit i of a number is 1
 abbrev pub has_bit : ℕ → ℕ → Bool
@@ -70,26 +71,26 @@ faces_from-bit first (r ∷ regions) x i =
     ∙ step_bit b first r regions x i refl
 
 -- a face of the name x is that of some region
-pub faces_in-bit : (regions : List Region) (x i : ℕ) → has_bit (faces_in regions x) i ≡ list_any (names_face x i) regions
-faces_in-bit regions x i = faces_from-bit 0 regions x i
+pub joined_faces-bit : (regions : List Region) (x i : ℕ) → has_bit (joined_faces regions x) i ≡ list_any (names_face x i) regions
+joined_faces-bit regions x i = faces_from-bit 0 regions x i
     ∙ ap (λ n. eqb n 1 || list_any (names_face x i) regions) (bit_at-zero i)
 
 -- two lists with the same names, and for each the same faces
 pub record AgreeInTests (regions others : List Region) : Type 0 where
-  pub names : (x : ℕ) → has_name others x ≡ has_name regions x
+  pub names : (x : ℕ) → is_named others x ≡ is_named regions x
   pub faces : (x i : ℕ) → list_any (names_face x i) others ≡ list_any (names_face x i) regions
 
 pub same_regions : (regions others : List Region) → AgreeInTests regions others → SameRegions regions others
 same_regions regions others h = record {
   names = h.names;
-  faces = λ x. same_by_bits (faces_in others x) (faces_in regions x)
-      (λ i. faces_in-bit others x i ∙ h.faces x i ∙ sym (faces_in-bit regions x i));
+  faces = λ x. same_by_bits (joined_faces others x) (joined_faces regions x)
+      (λ i. joined_faces-bit others x i ∙ h.faces x i ∙ sym (joined_faces-bit regions x i));
 }
 
 pub tests_agree : (regions others : List Region) → SameRegions regions others → AgreeInTests regions others
 tests_agree regions others h = record {
   names = h.names;
-  faces = λ x i. sym (faces_in-bit others x i) ∙ ap (λ n. has_bit n i) (h.faces x) ∙ faces_in-bit regions x i;
+  faces = λ x i. sym (joined_faces-bit others x i) ∙ ap (λ n. has_bit n i) (h.faces x) ∙ joined_faces-bit regions x i;
 }
 
 pub agree-permutation : (regions others : List Region) → IsPermutation regions others → AgreeInTests regions others

@@ -5,10 +5,11 @@ use Rattle.agglo_model.specs.Axes.{Axes, voxel_count, edge_count, coordinate}
 use Rattle.agglo_model.specs.Basins.{label_of}
 use Rattle.agglo_model.specs.Cutting.{length_on}
 use Rattle.agglo_model.specs.Grid.{Grid}
+use Rattle.agglo_model.specs.Joining.{is_named, joined_faces}
 use Rattle.agglo_model.specs.PairOrder.{added}
 use Rattle.agglo_model.specs.Contacts.{joins, total}
 use Rattle.agglo_model.specs.RegionGraph.{Region, GraphEdge, contact_in}
-use Rattle.region_graph.specs.Lists.{AreNamed, AreOrdered, faces_in, has_name}
+use Rattle.region_graph.specs.Lists.{AreNamed, AreOrdered}
 
 -- the coordinate of voxel v on an axis is in the box's range there
 abbrev pub in_span : Axes → List ℕ → List ℕ → ℕ → ℕ → Bool
@@ -44,9 +45,9 @@ ends_among axis test e = e % 3 == axis && test (e / 3)
 -- the names of the voxels that pass the test were added to the list, with these faces
 pub record GainsNames (a : Axes) (labels : List ℕ) (test : ℕ → Bool) (faces : ℕ) (before after : List Region) : Type 0 where
   pub named : AreNamed before → AreNamed after
-  pub names : (x : ℕ) → x ≢ 0 → has_name after x ≡ (has_name before x || name_among a labels test x)
-  pub with_faces : (x : ℕ) → x ≢ 0 → faces_in after x
-      ≡ (if name_among a labels test x then bit_or (faces_in before x) faces else faces_in before x)
+  pub names : (x : ℕ) → x ≢ 0 → is_named after x ≡ (is_named before x || name_among a labels test x)
+  pub with_faces : (x : ℕ) → x ≢ 0 → joined_faces after x
+      ≡ (if name_among a labels test x then bit_or (joined_faces before x) faces else joined_faces before x)
 
 -- the contacts of the edges that pass the test were added to the list
 pub record GainsContacts (g : Grid) (labels : List ℕ) (test : ℕ → Bool) (before after : List GraphEdge) : Type 0 where

@@ -1,21 +1,13 @@
 -- Lists of regions and of edges while a graph is gathered: in any order, and with names that come again.
-use Rattle.std.specs.Prelude.{◌≡◌, ◌≢◌, ℕ, ◌+◌, ◌*◌, ◌^◌, ◌<◌, ◌==◌, ◌⊎◌, Bool, List, [], ◌∷◌, ◌++◌, fold, map, filter, All, sum_by, bit_or}
-use Rattle.std.specs.List.{list_any}
+use Rattle.std.specs.Prelude.{◌≡◌, ◌≢◌, ℕ, ◌+◌, ◌*◌, ◌^◌, ◌<◌, ◌⊎◌, List, [], ◌∷◌, ◌++◌, All, sum_by, bit_or}
+use Rattle.agglo_model.specs.Joining.{is_named, joined_faces}
 use Rattle.agglo_model.specs.PairOrder.{added}
 use Rattle.agglo_model.specs.RegionGraph.{Region, GraphEdge, contact_in}
 
--- some region of the list has the name x
-abbrev pub has_name : List Region → ℕ → Bool
-has_name regions x = list_any (λ r. r.name == x) regions
-
--- the faces of all regions of the name x together
-abbrev pub faces_in : List Region → ℕ → ℕ
-faces_in regions x = fold bit_or 0 (map (λ r. r.faces) (filter (λ r. r.name == x) regions))
-
 -- the two lists have the same names, each with the same faces
 pub record SameRegions (regions others : List Region) : Type 0 where
-  pub names : (x : ℕ) → has_name others x ≡ has_name regions x
-  pub faces : (x : ℕ) → faces_in others x ≡ faces_in regions x
+  pub names : (x : ℕ) → is_named others x ≡ is_named regions x
+  pub faces : (x : ℕ) → joined_faces others x ≡ joined_faces regions x
 
 -- background is no region
 abbrev pub AreNamed : List Region → Type 0

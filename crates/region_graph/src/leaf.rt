@@ -2,10 +2,11 @@ ghost use Rattle.std.specs.Prelude.{◌≡◌, ◌≢◌, ℕ, ◌+◌, ◌^◌,
 ghost use Rattle.agglo_model.specs.Axes.{edge_count};
 ghost use Rattle.agglo_model.specs.Cutting.{cells_at, length_on, node_count};
 ghost use Rattle.agglo_model.specs.Freezing.{occurs_in, touched_faces};
+ghost use Rattle.agglo_model.specs.Joining.{is_named, joined_faces};
 ghost use Rattle.agglo_model.specs.PairOrder.{most_edges};
 ghost use Rattle.agglo_model.specs.RegionGraph.{IsCellGraph, between_inside, contact_in};
 ghost use Rattle.region_graph.specs.Boxes.{GainsFaces, GainsNames, IsBox, IsSomeBox, above_lowest, highest_from, in_box, lowest_to};
-ghost use Rattle.region_graph.specs.Lists.{AreNamed, AreOrdered, count_of, faces_in, has_name};
+ghost use Rattle.region_graph.specs.Lists.{AreNamed, AreOrdered, count_of};
 ghost use Rattle.region_graph.specs.SiteView.{IsSite};
 
 use crate::contacts::gather;
@@ -56,9 +57,9 @@ fn contacts_inside(alloc: Global, site: &Site, m: u32) -> Result<Vec<Edge>, Memo
 fn names_inside(alloc: Global, site: &Site, m: u32) -> Result<Vec<Region>, Memory>
     requires { m < node_count site.now.cutting }
     ensures named { IfOk result (λ regions. AreNamed regions.items) }
-    ensures names { IfOk result (λ regions. (x : ℕ) → x ≢ 0 → has_name regions.items x
+    ensures names { IfOk result (λ regions. (x : ℕ) → x ≢ 0 → is_named regions.items x
         ≡ occurs_in site.now.cutting m site.now.labels x) }
-    ensures faces { IfOk result (λ regions. (x : ℕ) → x ≢ 0 → faces_in regions.items x
+    ensures faces { IfOk result (λ regions. (x : ℕ) → x ≢ 0 → joined_faces regions.items x
         ≡ touched_faces site.now.cutting m site.now.labels x) }
 {
     let cell = site.cutting().cell(m);

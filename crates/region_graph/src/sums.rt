@@ -65,9 +65,8 @@ pub(crate) fn add_edge_at(edges: &mut Vec<Edge>, place: usize, edge: Edge) -> Re
 
 /// Sorts regions by name, and puts together the faces of those of one name.
 pub fn join_regions(alloc: Global, mut regions: Vec<Region>) -> Result<Vec<Region>, Memory>
-    requires { AreNamed regions.items }
     ensures ascend { IfOk result (λ joined. AllPairs (λ r s. r.name < s.name) joined.items) }
-    ensures named { IfOk result (λ joined. AreNamed joined.items) }
+    ensures named { IfOk result (λ joined. AreNamed regions.items → AreNamed joined.items) }
     ensures same { IfOk result (λ joined. SameRegions regions.items joined.items) }
 {
     regions.sort_unstable_by_key(|region| region.name);

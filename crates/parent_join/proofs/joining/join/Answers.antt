@@ -3,19 +3,14 @@ use Rattle.std.specs.Prelude.{AllPairs, filter}
 use Rattle.std.proofs.lemmas.List.{length-map}
 use Rattle.agglo_model.specs.Joining.{IsJoined, kept_edges}
 use Rattle.agglo_model.specs.PairOrder.{most_edges}
-use Rattle.region_graph.specs.Lists.{AreNamed, AreOrdered, count_of}
+use Rattle.region_graph.specs.Lists.{AreOrdered, count_of}
 use Rattle.agglo_model.specs.RegionGraph.{Region}
 use Rattle.region_graph.specs.declared.graph.Residue.{Residue}
 use Rattle.parent_join.specs.Across.{are_named}
 use Rattle.parent_join.specs.Kids.{graphs_of}
 use Rattle.parent_join.proofs.FirstChild.{inner}
-use Rattle.parent_join.proofs.JoinedGraphs.{all_few, all_ordered, found_lists, found_across, found_joined, graphs_at, joined-graph, joined-is, kept_named}
+use Rattle.parent_join.proofs.JoinedGraphs.{all_few, all_ordered, found_lists, found_across, found_joined, graphs_at, joined-graph, joined-is}
 use Rattle.parent_join.proofs.joining.join.Goals as goal
-
-pub join_regions-requires : goal.join_regions-requires
-join_regions-requires c =
-    subst AreNamed (sym c.in_ok-regions.ensures.regions)
-    (kept_named c.args.site.now.cutting c.args.m (graphs_of c.args.kids) (λ k below. (c.requires.fit k below).named))
 
 pub add_named-requires : goal.add_named-requires
 add_named-requires c = subst (AllPairs (λ (r : Region) s. r.name < s.name)) (sym c.deref-2.ensures.value) c.in_ok-regions-2.ensures.ascend

@@ -3,7 +3,7 @@ use Rattle.std.specs.Prelude.{map}
 use Rattle.agglo_model.specs.Cutting.{child, child_count}
 use Rattle.agglo_model.specs.Joining.{kept_faces}
 use Rattle.parent_join.specs.Kids.{with_faces_in}
-use Rattle.parent_join.proofs.KidLists.{AreGathered, AreGatheredBut, none_but, gathered_next, gathered_all, one_left, few_children}
+use Rattle.parent_join.proofs.KidLists.{AreGatheredBut, none_but, gathered_next, gathered_all, one_left, few_children}
 use Rattle.parent_join.proofs.kids.take_all.Goals as goal
 
 pub loop-kid-init : goal.loop-kid-init

@@ -21,7 +21,7 @@ of-requires-clause-graph c =
     c.in_ok-contacts_inside.field-0.items c.in_ok-edges.edges.items
     (record { names = names.names; faces = names.faces; contacts = c.in_ok-contacts_inside.ensures.contacts })
     regions.same edges.contacts
-    (record { regions_ascend = regions.ascend; named = regions.named; edges_ascend = edges.ascend; ordered = edges.ordered; touching = edges.touching }) in
+    (record { regions_ascend = regions.ascend; named = regions.named names.named; edges_ascend = edges.ascend; ordered = edges.ordered; touching = edges.touching }) in
     gathered-graph s.grid s.cutting c.args.m s.labels c.in_ok-regions.regions.items c.in_ok-edges.edges.items
     c.in_ok-contacts_inside.ensures.site.same_axes all
 
@@ -36,7 +36,7 @@ returns c =
     c.in_ok-contacts_inside.field-0.items c.in_ok-edges.edges.items
     (record { names = names.names; faces = names.faces; contacts = c.in_ok-contacts_inside.ensures.contacts })
     regions.same edges.contacts
-    (record { regions_ascend = regions.ascend; named = regions.named; edges_ascend = edges.ascend; ordered = edges.ordered; touching = edges.touching }) in
+    (record { regions_ascend = regions.ascend; named = regions.named names.named; edges_ascend = edges.ascend; ordered = edges.ordered; touching = edges.touching }) in
     subst (IsCellGraph s.grid s.cutting c.args.m s.labels) (sym c.of.ensures)
     (gathered-cell s.grid s.cutting c.args.m s.labels c.in_ok-regions.regions.items c.in_ok-edges.edges.items
     c.in_ok-contacts_inside.ensures.site.same_axes all)

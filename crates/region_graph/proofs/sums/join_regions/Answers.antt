@@ -24,7 +24,7 @@ returns-clause-named c =
     let k = c.loop-region.region-index in
     together-named c.args.regions.items (take k c.deref-region-items.result.now) c.loop-region.joined.items c.loop-region.invariant
     (all_moved c.args.regions.items c.sort_unstable_by_key.new.self.items c.deref-region-items.result.now k
-    c.sort_unstable_by_key.ensures.permutation c.deref-region-items.ensures.value c.loop-region-test.false) c.requires
+    c.sort_unstable_by_key.ensures.permutation c.deref-region-items.ensures.value c.loop-region-test.false)
 
 pub returns-clause-same : goal.returns-clause-same
 returns-clause-same c =
