@@ -26,7 +26,7 @@ told_flaw (Some flaw) fault e = ap (option_map Tree) e
 bad_tree : (name : List ℕ) (fault : TreeFault) (s t u : DeskState) → OpensInput name s t → FindsBadTree fault t u
     → OpensFile name (λ bytes. show_refusal bytes ≡ Some (Tree fault)) s u
 bad_tree name fault s t u o f = opens_file name _ s t u _ o
-    (if_some t.input _ _ (λ bytes e. told_flaw (tree_flaw bytes) fault e) f.flaw) f.after.after
+    (if_some t.input _ _ (λ bytes e. told_flaw (tree_flaw bytes) fault e) f.flaw) f.after
 
 pub no_tree : (name : List ℕ) (fault : TreeFault) (s t u : DeskState) → OpensInput name s t → FailsToReadTree fault t u
     → RefusesInput show_refusal name (tree_refusal fault) s u

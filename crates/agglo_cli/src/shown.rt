@@ -15,7 +15,7 @@ pub fn tree_note(alloc: Global, tree: &Tree) -> Result<String, Memory>
 {
     let mut note = String::new(alloc);
     add_dims(&mut note, tree.dims())?;
-    add_threshold(&mut note, &tree.threshold(), tree.merges().len())?;
+    add_threshold(&mut note, tree.threshold(), tree.merges().len())?;
     add_merges(&mut note, tree.merges())?;
     Ok(note)
 }

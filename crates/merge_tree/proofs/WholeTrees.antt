@@ -16,7 +16,7 @@ use Rattle.merge_tree.specs.declared.tree_fault.TreeFault.TheVariants.{Truncated
 use Rattle.merge_tree.specs.declared.tree_fault.InputFault.{InputFault}
 use Rattle.merge_tree.specs.declared.tree_fault.InputFault.TheVariants.{Read as InputRead, Memory as InputMemory}
 use Rattle.merge_tree.specs.TreeFault.{fault_of, told}
-use Rattle.merge_tree.specs.TreeReading.{Tells, ReadsTree, FailsToReadTree, ReadsUpTo, FailsToRead}
+use Rattle.merge_tree.specs.TreeReading.{Tells, body_count, read_count, ReadsTree, FailsToReadTree, ReadsUpTo, FailsToRead}
 use Rattle.merge_tree.specs.TreeHead.{SaysHead, ReadsHead, FailsToReadHead}
 use Rattle.merge_tree.proofs.Headers.{never_tells_read}
 use Rattle.merge_tree.proofs.Judged.{told_first}
@@ -42,13 +42,23 @@ head_flaw : (fault : TreeFault) (o : Option (List ℕ)) → IfSome o (λ bytes. 
     → IfSome o (λ bytes. Tells fault (tree_flaw bytes))
 head_flaw fault o h = if_some o _ _ (λ bytes tells. told_first (header_flaw (header bytes)) _ fault tells) h
 
+-- of an input with a flawed header just the header is taken
+head_taken : (fault : TreeFault) (o : Option (List ℕ)) → IfSome o (λ bytes. Tells fault (header_flaw (header bytes)))
+    → option_map (drop header_length) o ≡ option_map (drop (read_count o)) o
+head_taken fault None h = refl
+head_taken fault (Some bytes) h = ap (λ (n : ℕ). Some (drop (header_length + n) bytes)) (none_more (header_flaw (header bytes)) h)
+  where
+    none_more : (flaw : Option TreeFlaw) → Tells fault flaw → 0 ≡ body_count flaw (header_merges (header bytes))
+    none_more None tells = absurd (cc)
+    none_more (Some flaw) tells = refl
+
 -- no header was read
 pub no_head : (fault : TreeFault) (old new : DeskState) → FailsToReadHead fault old new → FailsToReadTree fault old new
 no_head Read old new f = f
 no_head Memory old new f = record { count = header_length; after = f.after }
 no_head fault old new f = record {
   flaw = head_flaw fault old.input f.flaw;
-  after = record { count = header_length; after = f.after };
+  after = f.after ∙ ap (λ (i : Option (List ℕ)). record old { input = i }) (head_taken fault old.input f.flaw);
 }
 
 -- the input is still open after the header
@@ -114,6 +124,16 @@ reads_tree head most bytes tree old now new e h read sound made =
           ∙ emptied_later old now header_length h.after);
     }
 
+-- of an input with a sound header the records that it claims are taken, and one byte more
+all_taken : (o : Option (List ℕ)) (head : Head) (most : ℕ) → most ≡ record_length * head.merges + 1
+    → IfSome o (λ input. header_flaw (header input) ≡ None) → IfSome o (λ input. SaysHead head (header input))
+    → option_map (drop (header_length + most)) o ≡ option_map (drop (read_count o)) o
+all_taken None head most e sound says = refl
+all_taken (Some input) head most e sound says =
+    ap (λ (n : ℕ). Some (drop (header_length + n) input))
+    (e ∙ (ap (λ n. record_length * n + 1) says.merges
+    ∙ ap (λ (flaw : Option TreeFlaw). body_count flaw (header_merges (header input))) (sym sound)))
+
 -- what was read has a flaw, or there was no memory for its merges
 pub finds_bad_tree : (fault : TreeFault) (head : Head) (most : ℕ) (bytes : List ℕ) (old now new : DeskState) → most ≡ record_length * head.merges + 1
     → ReadsHead head old now → ReadsUpTo most bytes now new
@@ -129,8 +149,6 @@ finds_bad_tree fault head most bytes old now new e h read tells =
     record {
       flaw = if_some old.input _ _ (λ input same. ap (option_map fault_of) same ∙ tells (λ same. cc))
           (flaw_after old.input head most bytes e h.sound h.says rest);
-      after = record {
-        count = header_length + most;
-        after = read.after ∙ (ap (taken most) h.after ∙ taken-taken header_length most old);
-      };
+      after = read.after ∙ (ap (taken most) h.after ∙ (taken-taken header_length most old
+          ∙ ap (λ (i : Option (List ℕ)). record old { input = i }) (all_taken old.input head most e h.sound h.says)));
     }

@@ -1,8 +1,9 @@
 -- What the calls that read a tree file take off a desk's input, and what they answer. A desk may tell its
 -- input or not; what is said of the bytes is said where it does.
-use Rattle.std.specs.Prelude.{◌≡◌, ℕ, ◌+◌, ◌≤◌, List, ◌++◌, length, take, min, Option, Some, None, IfSome}
+use Rattle.std.specs.Prelude.{◌≡◌, ℕ, ◌+◌, ◌*◌, ◌≤◌, List, [], ◌++◌, length, take, min, Option, Some, None, IfSome}
 use Rattle.std.specs.Option.{option_map}
-use Rattle.agglo_model.specs.TreeFile.{MergeTree, TreeFlaw, tree_flaw, tree_in}
+use Rattle.agglo_model.specs.TreeFile.{MergeTree, TreeFlaw, header, header_flaw, header_merges, record_length, tree_flaw, tree_in}
+use Rattle.agglo_model.specs.VolumeFile.{header_length}
 use Rattle.seg_io.specs.Desk.{DeskState, taken, emptied, TakesSome, FailsAfterReading}
 use Rattle.merge_tree.specs.declared.tree_fault.TreeFault.{TreeFault}
 use Rattle.merge_tree.specs.declared.tree_fault.TreeFault.TheVariants.{Read, Memory}
@@ -20,10 +21,20 @@ pub record ReadsTree (tree : MergeTree) (old new : DeskState) : Type 0 where
 abbrev pub Tells : TreeFault → Option TreeFlaw → Type 0
 Tells fault flaw = option_map fault_of flaw ≡ Some fault
 
--- The input left has a flaw that this fault tells of. Some of it was taken off.
+-- how many bytes are read before the records are judged: the header, and where it is sound as many as the records
+-- that it claims have, and one more
+abbrev pub body_count : Option TreeFlaw → ℕ → ℕ
+body_count None merges = record_length * merges + 1
+body_count (Some flaw) merges = 0
+
+abbrev pub read_count : Option (List ℕ) → ℕ
+read_count None = 0
+read_count (Some bytes) = header_length + body_count (header_flaw (header bytes)) (header_merges (header bytes))
+
+-- The input left has a flaw that this fault tells of. So many bytes were taken off, as far as they are there.
 pub record FindsBadTree (fault : TreeFault) (old new : DeskState) : Type 0 where
   pub flaw : IfSome old.input (λ bytes. Tells fault (tree_flaw bytes))
-  pub after : TakesSome old new
+  pub after : new ≡ taken (read_count old.input) old
 
 -- no tree was read
 abbrev pub FailsToReadTree : TreeFault → DeskState → DeskState → Type 0

@@ -48,11 +48,11 @@ impl Tree {
     }
 
     /// The threshold, as it was given.
-    pub fn threshold(&self) -> Threshold
-        ensures value { result ≡ self.now.threshold }
+    pub fn threshold(&self) -> &Threshold
+        ensures value { result.now ≡ self.now.threshold }
         ensures tree { IsMergeTree self.now }
     {
-        self.threshold
+        &self.threshold
     }
 
     /// The merges, one after another.
