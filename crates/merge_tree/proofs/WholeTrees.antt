@@ -1,5 +1,5 @@
 -- A whole tree file: its header, then its records.
-use Rattle.std.proofs.Common.{◌≡◌, ◌≢◌, ℕ, ◌+◌, ◌*◌, ◌<◌, ◌≤◌, true, List, [], length, take, drop, min, Option, Some, None, IfSome, sym, ap, ◌∙◌, subst, arith, length-take}
+use Rattle.std.proofs.Common.{refl, ◌≡◌, ◌≢◌, ℕ, ◌+◌, ◌*◌, ◌<◌, ◌≤◌, true, List, [], length, take, drop, min, Option, Some, None, IfSome, sym, ap, ◌∙◌, subst, arith, length-take}
 use Rattle.std.specs.Option.{option_map, option_or}
 use Rattle.std.proofs.lemmas.List.{take_all}
 use Rattle.agglo_model.specs.Axes.{Axes}

@@ -1,6 +1,6 @@
 -- What the calls that read a tree file take off a desk's input, and what they answer. A desk may tell its
 -- input or not; what is said of the bytes is said where it does.
-use Rattle.std.specs.Prelude.{◌≡◌, ℕ, ◌+◌, ◌*◌, ◌≤◌, List, [], ◌++◌, length, take, min, Option, Some, None, IfSome}
+use Rattle.std.specs.Prelude.{◌≡◌, ℕ, ◌+◌, ◌*◌, ◌≤◌, List, ◌++◌, length, take, min, Option, Some, None, IfSome}
 use Rattle.std.specs.Option.{option_map}
 use Rattle.agglo_model.specs.TreeFile.{MergeTree, TreeFlaw, header, header_flaw, header_merges, record_length, tree_flaw, tree_in}
 use Rattle.agglo_model.specs.VolumeFile.{header_length}

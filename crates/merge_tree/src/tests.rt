@@ -77,7 +77,11 @@ fn a_cut_tree_file_is_refused(rt: HostRuntime) -> Result<(), Fail> {
     claims[8..20].copy_from_slice(b"\0\x40\0\0\0\x40\0\0\x01\0\0\0");
     claims[28..32].copy_from_slice(&200_000_000u32.to_le_bytes());
     let claimed = read(rt.alloc(), &claims[..63])?;
-    assert_eq!(rt; claimed.err(), Some(TreeFault::Truncated(31)), "not for want of memory");
+    assert_eq!(rt;
+        claimed.err(),
+        Some(TreeFault::Truncated(31)),
+        "not for want of memory"
+    );
     Ok(())
 }
 
@@ -94,7 +98,11 @@ fn records_out_of_order_are_refused(rt: HostRuntime) -> Result<(), Fail> {
     let order = Some(TreeFault::Order(1));
     for (tie, fault) in [(6, None), (19, order), (18, order)] {
         file[56] = tie;
-        assert_eq!(rt; read(rt.alloc(), &file)?.err(), fault, "the first tie is {tie}");
+        assert_eq!(rt;
+            read(rt.alloc(), &file)?.err(),
+            fault,
+            "the first tie is {tie}"
+        );
     }
     Ok(())
 }
