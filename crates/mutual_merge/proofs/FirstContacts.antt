@@ -1,14 +1,14 @@
 -- The first contact at each region, link by link.
-use Rattle.std.proofs.Common.{◌≡◌, ◌≢◌, ◌⊎◌, inl, inr, ℕ, ◌+◌, ◌<◌, ◌≤◌, List, [], ◌∷◌, ◌++◌, length, get_or, set, take, replicate, Option, Some, None, refl, sym, ap, ◌∙◌, subst, arith}
+use Rattle.std.proofs.Common.{◌≡◌, ◌≢◌, ◌⊎◌, inl, inr, ℕ, ◌+◌, ◌<◌, List, [], ◌∷◌, ◌++◌, length, get_or, set, take, replicate, Option, Some, None, refl, sym, ap, ◌∙◌, subst, arith}
 use Rattle.std.specs.Prelude.{Contains, All}
 use Rattle.std.proofs.lemmas.List.{take_more, get_or_read, length-replicate, length-set, get_or-replicate, get_or-set_same, get_or-set_other}
 use Rattle.std.proofs.lemmas.List.Elements.{Contains-push, Contains-append_left, Contains-push_cases, All-contains, All-take, All-get_or}
 use Rattle.agglo_model.specs.PairOrder.{Contact, Before}
-use Rattle.agglo_model.proofs.Means.{before_irrefl, before_asym, before_trans}
+use Rattle.agglo_model.proofs.Means.{before_irrefl, before_trans}
 use Rattle.agglo_model.proofs.Members.{contains_none}
 use Rattle.mutual_merge.specs.declared.links.Link.{Link}
 use Rattle.mutual_merge.specs.Linked.{IsLink, IsAtPlace}
-use Rattle.mutual_merge.specs.Firsts.{NoneBefore, IsFirstContact, IsFirst, AreFirsts, IsEarlier, IsNotEarlier}
+use Rattle.mutual_merge.specs.Firsts.{IsFirstContact, IsFirst, AreFirsts, IsEarlier}
 
 pub AreFirsts-none : (n : ℕ) → AreFirsts [] n (replicate n None)
 AreFirsts-none n = record {

@@ -1,12 +1,12 @@
 -- Links between the same regions added up, link by link.
-use Rattle.std.proofs.Common.{◌≡◌, ◌≢◌, ◌⊎◌, inl, inr, ℕ, zero, suc, ◌+◌, ◌-◌, ◌<◌, ◌≤◌, List, [], ◌∷◌, ◌++◌, length, get_or, set, take, refl, sym, ap, ◌∙◌, subst, arith}
+use Rattle.std.proofs.Common.{◌≡◌, ◌≢◌, ◌⊎◌, inl, inr, ℕ, ◌+◌, ◌-◌, ◌<◌, ◌≤◌, List, [], ◌∷◌, ◌++◌, length, get_or, set, take, refl, sym, ap, ◌∙◌, subst, arith}
 use Rattle.std.specs.Prelude.{All, AllPairs, Contains}
-use Rattle.std.proofs.lemmas.List.{map_push, take_more, take_more_set, take_all, get_or_read, get_or_append_left, get_or_push, length_push, length-set}
+use Rattle.std.proofs.lemmas.List.{take_more, take_more_set, take_all, get_or_append_left, get_or_push, length_push, length-set}
 use Rattle.std.proofs.lemmas.List.Sums.{sum_by_push}
-use Rattle.std.proofs.lemmas.List.Elements.{All-push, All-get_or, All-nil, All-append, All-contains, Contains-push, Contains-push_cases, Contains-append_left, Contains-get_or}
+use Rattle.std.proofs.lemmas.List.Elements.{All-push, All-get_or, All-nil, All-contains, Contains-push, Contains-push_cases, Contains-append_left, Contains-get_or}
 use Rattle.std.proofs.lemmas.List.Quantifiers.{all_pairs_push}
-use Rattle.agglo_model.specs.PairOrder.{Contact, added}
-use Rattle.agglo_model.specs.RegionGraph.{GraphEdge, is_between, contact_in}
+use Rattle.agglo_model.specs.PairOrder.{added}
+use Rattle.agglo_model.specs.RegionGraph.{is_between, contact_in}
 use Rattle.agglo_model.proofs.GraphContacts.{contact_in-alike, contact_in-taken}
 use Rattle.agglo_model.proofs.Members.{contains_none, All-from_contains}
 use Rattle.mutual_merge.specs.declared.links.Link.{Link}

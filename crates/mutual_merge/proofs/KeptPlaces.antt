@@ -1,11 +1,11 @@
 -- The places of regions among those that are kept, and the links between these.
-use Rattle.std.proofs.Common.{◌≡◌, ◌⊎◌, inl, inr, ℕ, ◌+◌, ◌<◌, ◌≤◌, ◌^◌, Bool, true, false, ◌&&◌, List, [], ◌∷◌, ◌++◌, length, get_or, refl, sym, ap, ◌∙◌, subst, arith}
+use Rattle.std.proofs.Common.{◌≡◌, ◌⊎◌, inl, inr, ℕ, ◌+◌, ◌<◌, ◌≤◌, Bool, true, false, ◌&&◌, List, [], ◌∷◌, ◌++◌, length, get_or, refl, sym, ap, ◌∙◌, subst, arith}
 use Rattle.std.specs.Prelude.{map, filter, sum_by, Contains, All}
 use Rattle.std.specs.List.{range_with_len}
 use Rattle.std.proofs.lemmas.List.{get_or_append_left, get_or_push, length_push}
 use Rattle.std.proofs.lemmas.List.Elements.{All-contains}
 use Rattle.agglo_model.specs.PairOrder.{Threshold}
-use Rattle.agglo_model.specs.RegionGraph.{Region, GraphEdge, RegionGraph, IsGraph, IsWithinEdges}
+use Rattle.agglo_model.specs.RegionGraph.{Region, RegionGraph, IsGraph, IsWithinEdges}
 use Rattle.agglo_model.specs.Settling.{IsLeftOf}
 use Rattle.agglo_model.proofs.Members.{contains_head, contains_tail, Contains-unmap, All-from_contains}
 use Rattle.mutual_merge.specs.declared.links.Link.{Link}

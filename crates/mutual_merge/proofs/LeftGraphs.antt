@@ -1,19 +1,19 @@
 -- The graph of the regions that are kept is what is left.
-use Rattle.std.proofs.Common.{◌≡◌, ◌≢◌, ◌⊎◌, inl, inr, ℕ, ◌+◌, ◌<◌, ◌≤◌, Bool, true, false, not, cond, ◌&&◌, List, [], ◌∷◌, length, get_or, refl, sym, ap, ◌∙◌, subst, zero-add, arith}
-use Rattle.std.specs.Prelude.{◌↔◌, IsTrue, Contains, All, AllPairs, map, filter, sum_by, bit_and}
+use Rattle.std.proofs.Common.{◌≡◌, ◌⊎◌, inl, inr, ℕ, ◌<◌, ◌≤◌, Bool, true, false, not, cond, ◌&&◌, List, [], ◌∷◌, length, get_or, refl, sym, ap, ◌∙◌, subst, zero-add, arith}
+use Rattle.std.specs.Prelude.{◌↔◌, Contains, AllPairs, filter, sum_by}
 use Rattle.std.specs.List.{range_with_len}
 use Rattle.std.proofs.lemmas.Bool.{false≢true}
-use Rattle.std.proofs.lemmas.List.{get_or-map, length-map, get_or_default}
+use Rattle.std.proofs.lemmas.List.{get_or-map, length-map}
 use Rattle.std.proofs.lemmas.List.FromFn.{length-range_with_len, get_or-range_with_len}
 use Rattle.std.proofs.lemmas.List.Filters.{sum_by-filter_both}
 use Rattle.std.proofs.lemmas.List.Kept.{AllPairs-filter}
 use Rattle.std.proofs.lemmas.List.Elements.{All-contains, All-filter, All-contains_itself, Contains-get_or, filter_passes}
 use Rattle.agglo_model.specs.PairOrder.{Threshold, Reaches}
-use Rattle.agglo_model.specs.RegionGraph.{Region, GraphEdge, RegionGraph, IsGraph, IsWithinEdges, HasRegion}
-use Rattle.agglo_model.specs.Settling.{IsAt, IsLeft, IsLeftOf}
+use Rattle.agglo_model.specs.RegionGraph.{Region, GraphEdge, IsGraph, IsWithinEdges, HasRegion}
+use Rattle.agglo_model.specs.Settling.{IsLeft, IsLeftOf}
 use Rattle.agglo_model.proofs.Members.{contains_cases, contains_head, contains_none, contains_tail, Contains-map, Contains-unmap}
 use Rattle.mutual_merge.specs.declared.links.Link.{Link}
-use Rattle.mutual_merge.specs.Linked.{Ascend, AreLinked, AreLinks, IsLink, IsAtPlace, LinkBefore, link_edges, region_at, name_at, faces_at, edge_by, edges_by, graph_of}
+use Rattle.mutual_merge.specs.Linked.{Ascend, AreLinked, IsLink, LinkBefore, link_edges, region_at, name_at, faces_at, edge_by, edges_by, graph_of}
 use Rattle.mutual_merge.specs.Left.{AreLeft, IsLeftAt, is_kept, kept_edges, kept_regions}
 use Rattle.mutual_merge.proofs.RegionPlaces.{names_ascend, region_place, same_place}
 use Rattle.mutual_merge.proofs.LinkedEdges.{same_sums}

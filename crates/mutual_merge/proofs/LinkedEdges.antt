@@ -1,14 +1,14 @@
 -- Links and the edges that they are.
-use Rattle.std.proofs.Common.{◌≡◌, ◌≢◌, ◌⊎◌, inl, inr, ℕ, ◌+◌, ◌^◌, ◌<◌, ◌≤◌, List, [], ◌∷◌, ◌++◌, length, get_or, take, refl, sym, ap, ◌∙◌, subst, arith}
-use Rattle.std.specs.Prelude.{map, Contains, All, AllPairs, sum_by}
+use Rattle.std.proofs.Common.{◌≡◌, inl, inr, ℕ, ◌+◌, ◌^◌, ◌<◌, ◌≤◌, List, [], ◌∷◌, length, get_or, refl, sym, ap, ◌∙◌, subst, arith}
+use Rattle.std.specs.Prelude.{Contains, All, AllPairs, sum_by}
 use Rattle.std.proofs.lemmas.List.{get_or-map, length-map}
 use Rattle.std.proofs.lemmas.List.Sums.{sum_by-cons}
 use Rattle.std.proofs.lemmas.List.Elements.{Contains-get_or, All-get_or}
-use Rattle.agglo_model.specs.RegionGraph.{Region, GraphEdge, RegionGraph, IsGraph, IsWithinEdges, StandsBefore, HasRegion}
-use Rattle.agglo_model.proofs.Members.{Contains-map, Contains-unmap, All-from_contains}
+use Rattle.agglo_model.specs.RegionGraph.{Region, GraphEdge, IsGraph, IsWithinEdges, StandsBefore}
+use Rattle.agglo_model.proofs.Members.{Contains-map}
 use Rattle.mutual_merge.specs.declared.links.Link.{Link}
-use Rattle.mutual_merge.specs.Linked.{Ascend, AreLinked, AreLinks, IsLink, LinkBefore, link_edges, name_at, faces_at, region_at, edge_by, edges_by, graph_of}
-use Rattle.mutual_merge.proofs.RegionPlaces.{place_less, same_place, names_ascend}
+use Rattle.mutual_merge.specs.Linked.{Ascend, AreLinked, LinkBefore, link_edges, name_at, edge_by, edges_by}
+use Rattle.mutual_merge.proofs.RegionPlaces.{place_less, same_place}
 
 -- both places of a link are those of regions
 pub record IsInside (n : ℕ) (l : Link) : Type 0 where

@@ -1,15 +1,14 @@
 -- The graph after each region is merged with its mate: survivors, moved links, sorted and added up.
-use Rattle.std.proofs.Common.{◌≡◌, ◌⊎◌, inl, inr, ℕ, ◌+◌, ◌*◌, ◌^◌, ◌<◌, ◌≤◌, List, [], ◌∷◌, length, get_or, refl, sym, ap, ◌∙◌, subst, arith}
-use Rattle.std.specs.Prelude.{All, AllPairs, IsPermutation, Contains}
+use Rattle.std.proofs.Common.{◌≡◌, ◌⊎◌, ℕ, ◌+◌, ◌*◌, ◌^◌, ◌<◌, ◌≤◌, List, [], ◌∷◌, length, get_or, refl, sym, ap, ◌∙◌, arith}
+use Rattle.std.specs.Prelude.{All, AllPairs, IsPermutation}
 use Rattle.std.specs.List.Sorted.{IsNonDecreasingBy}
 use Rattle.std.proofs.lemmas.List.Sorted.{IsPermutation-map, sum_by-IsPermutation, All-permutation}
 use Rattle.std.proofs.lemmas.List.Elements.{All-head, All-tail, All-get_or, All-from_get_or}
-use Rattle.agglo_model.specs.PairOrder.{most_edges}
-use Rattle.agglo_model.specs.RegionGraph.{Region, GraphEdge, is_between, contact_in}
+use Rattle.agglo_model.specs.RegionGraph.{Region, is_between, contact_in}
 use Rattle.agglo_model.proofs.GraphContacts.{contact_in-is, joint-permutation}
 use Rattle.mutual_merge.specs.declared.links.Link.{Link}
-use Rattle.mutual_merge.specs.Linked.{AreLinked, AreLinks, IsLink, link_edges, edge_by, edges_by, name_at}
-use Rattle.mutual_merge.specs.Merged.{AreJoined, AreMerged, AreMoved, AreSurvivors, NoLater, SameContactsBy, key_of, survivor_of}
+use Rattle.mutual_merge.specs.Linked.{AreLinked, AreLinks, IsLink, edge_by, edges_by, name_at}
+use Rattle.mutual_merge.specs.Merged.{AreJoined, AreMerged, AreMoved, AreSurvivors, NoLater, key_of, survivor_of}
 
 -- links by ascending number stand in order, since places fit 32 bits
 pub NoLater-from_keys : (n : ℕ) (ls : List Link) → n ≤ 2 ^ 32 → All (IsLink n) ls → IsNonDecreasingBy key_of ls → AllPairs NoLater ls

@@ -1,17 +1,16 @@
 -- Links whose regions move to other places, link by link.
-use Rattle.std.proofs.Common.{◌≡◌, ◌≢◌, ◌⊎◌, inl, inr, ℕ, ◌+◌, ◌<◌, ◌≤◌, min, max, Bool, true, false, List, [], ◌∷◌, ◌++◌, length, get_or, take, refl, sym, ap, ◌∙◌, subst, arith}
-use Rattle.std.specs.Prelude.{All, map}
+use Rattle.std.proofs.Common.{◌≡◌, ◌≢◌, ◌⊎◌, inl, inr, ℕ, ◌+◌, ◌<◌, min, max, false, List, [], ◌∷◌, ◌++◌, length, get_or, take, refl, sym, ap, ◌∙◌, subst, arith}
+use Rattle.std.specs.Prelude.{All}
 use Rattle.std.proofs.lemmas.Bool.Decides.{nat_tests}
-use Rattle.std.proofs.lemmas.List.{map_push, take_more, get_or_read}
+use Rattle.std.proofs.lemmas.List.{map_push, take_more}
 use Rattle.std.proofs.lemmas.List.Sums.{sum_by_push}
 use Rattle.std.proofs.lemmas.List.Elements.{All-push, All-get_or, All-nil}
-use Rattle.agglo_model.specs.PairOrder.{Contact}
 use Rattle.agglo_model.specs.Contacts.{are}
-use Rattle.agglo_model.specs.RegionGraph.{GraphEdge, is_between, contact_in}
+use Rattle.agglo_model.specs.RegionGraph.{is_between, contact_in}
 use Rattle.agglo_model.proofs.GraphContacts.{contact_in-other, contact_in-alike}
 use Rattle.mutual_merge.specs.declared.links.Link.{Link}
 use Rattle.mutual_merge.specs.Linked.{IsLink, link_edges, edge_by, edges_by}
-use Rattle.mutual_merge.specs.Merged.{AreMoved, SameContactsBy}
+use Rattle.mutual_merge.specs.Merged.{AreMoved}
 
 pub AreMoved-none : (places : List ℕ) (moved : List Link) → moved ≡ [] → AreMoved [] places moved
 AreMoved-none places moved none = record {

@@ -1,23 +1,23 @@
 -- Merging each region with its mate is a round of merges of the graph.
-use Rattle.std.proofs.Common.{◌≡◌, ◌≢◌, ◌⊎◌, inl, inr, ℕ, ◌+◌, ◌<◌, ◌≤◌, min, Bool, true, false, cond, eqb, List, [], ◌∷◌, length, get_or, refl, sym, ap, ◌∙◌, subst, arith}
-use Rattle.std.specs.Prelude.{◌↔◌, map, Contains, All, AllPairs, bit_and, bit_or}
+use Rattle.std.proofs.Common.{◌≡◌, ◌≢◌, ◌⊎◌, inl, inr, ℕ, ◌<◌, ◌≤◌, min, cond, eqb, List, [], ◌∷◌, length, get_or, refl, sym, ap, ◌∙◌, subst, arith}
+use Rattle.std.specs.Prelude.{map, Contains, AllPairs, bit_and, bit_or}
 use Rattle.std.specs.Int.Bits.{or_self}
 use Rattle.std.proofs.lemmas.Bool.Decides.{nat_tests}
 use Rattle.std.proofs.lemmas.List.{get_or-map, length-map, nil_from_length}
 use Rattle.std.proofs.lemmas.List.Elements.{All-contains, All-get_or, Contains-get_or}
 use Rattle.agglo_model.specs.PairOrder.{Threshold, Contact, Before}
 use Rattle.agglo_model.specs.Greedy.{Merge}
-use Rattle.agglo_model.specs.RegionGraph.{Region, GraphEdge, RegionGraph, IsGraph, StandsBefore, contact_in}
+use Rattle.agglo_model.specs.RegionGraph.{Region, GraphEdge, IsGraph, StandsBefore, contact_in}
 use Rattle.agglo_model.specs.Settling.{IsFreeIn, IsReciprocalEdge, HasBothFaces, edge_after, edge_of, name_after}
-use Rattle.agglo_model.proofs.Members.{contains_head, contains_tail, contains_cases, contains_none, all_pairs_head, all_pairs_tail, All-from_contains, Contains-map, Contains-unmap}
+use Rattle.agglo_model.proofs.Members.{contains_head, contains_tail, contains_cases, contains_none, all_pairs_head, all_pairs_tail, Contains-map, Contains-unmap}
 use Rattle.agglo_model.proofs.RegionLists.{one_region}
 use Rattle.agglo_model.proofs.GraphFirsts.{IsFirstAt}
-use Rattle.agglo_model.proofs.GraphRounds.{Leads, round_leads, IsRound, IsGraphAfterAll, IsRegionAfter, IsInNone, ShareNone, edges_after}
+use Rattle.agglo_model.proofs.GraphRounds.{Leads, round_leads, IsRound, IsRegionAfter, IsInNone, ShareNone, edges_after}
 use Rattle.mutual_merge.specs.declared.links.Link.{Link}
 use Rattle.mutual_merge.specs.Linked.{AreLinked, IsLink, IsAtPlace, LinkBefore, region_at, name_at, faces_at, edge_by, edges_by, graph_of}
 use Rattle.mutual_merge.specs.Firsts.{NoneBefore}
-use Rattle.mutual_merge.specs.Pairs.{IsReciprocalLink, ShareNoPlace, AreMates, IsPaired, IsPairing, merge_of}
-use Rattle.mutual_merge.specs.Merged.{AreMutual, AreMerged, AreSurvivors, survivor_of}
+use Rattle.mutual_merge.specs.Pairs.{IsReciprocalLink, ShareNoPlace, AreMates, IsPairing, merge_of}
+use Rattle.mutual_merge.specs.Merged.{AreMutual, AreMerged, survivor_of}
 use Rattle.mutual_merge.proofs.RegionPlaces.{names_ascend, same_place, region_place}
 use Rattle.mutual_merge.proofs.MergedMates.{edges_by-agree}
 

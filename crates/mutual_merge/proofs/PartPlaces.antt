@@ -1,23 +1,22 @@
 -- The two parts of a graph by the places of its regions.
-use Rattle.std.proofs.Common.{◌≡◌, ◌≢◌, ◌⊎◌, inl, inr, ℕ, ◌+◌, ◌<◌, ◌≤◌, Bool, true, false, not, cond, ◌&&◌, List, length, get_or, refl, sym, ap, ◌∙◌, subst, arith}
-use Rattle.std.specs.Prelude.{◌↔◌, Contains, All, AllPairs, filter, sum_by, bit_and}
+use Rattle.std.proofs.Common.{◌≡◌, ◌≢◌, ◌⊎◌, inl, inr, ℕ, ◌+◌, ◌<◌, ◌≤◌, Bool, true, false, not, ◌&&◌, List, length, refl, sym, ap, ◌∙◌, subst, arith}
+use Rattle.std.specs.Prelude.{Contains, filter, sum_by, bit_and}
 use Rattle.std.proofs.lemmas.Bool.{cases_Bool, false≢true}
 use Rattle.std.proofs.lemmas.Grind.{common_steps}
 use Rattle.std.proofs.lemmas.List.{get_or_default}
 use Rattle.std.proofs.lemmas.List.Elements.{All-contains, Contains-get_or}
 use Rattle.std.proofs.lemmas.List.Filters.{sum_by-filter_both}
-use Rattle.agglo_model.specs.RegionGraph.{Region, GraphEdge, RegionGraph, IsGraph, IsWithinEdges, HasRegion, grid_edges}
+use Rattle.agglo_model.specs.RegionGraph.{Region, GraphEdge, RegionGraph, IsGraph, IsWithinEdges, HasRegion}
 use Rattle.agglo_model.specs.Settling.{IsHeldBack}
 use Rattle.agglo_model.proofs.Members.{Contains-map}
 use Rattle.mutual_merge.specs.declared.links.Link.{Link}
-use Rattle.mutual_merge.specs.Linked.{AreLinked, Ascend, IsLink, link_edges, region_at, name_at, faces_at, edge_by, edges_by, graph_of}
+use Rattle.mutual_merge.specs.Linked.{AreLinked, Ascend, IsLink, link_edges, region_at, name_at, faces_at, edge_by, graph_of}
 use Rattle.mutual_merge.specs.Left.{is_kept, kept_edges, kept_regions}
 use Rattle.mutual_merge.specs.Parts.{AreAside, AreMarked, IsParted, MayRest, awake_edges, is_awake, marked}
 use Rattle.mutual_merge.proofs.RegionPlaces.{names_ascend, region_place}
 use Rattle.mutual_merge.proofs.LinkedEdges.{same_sums}
 use Rattle.mutual_merge.proofs.LeftGraphs.{Contains-filter, Contains-unfilter, filtered_linked, filtered-fewer, kept_place, kept_name, has_kept, a_in, IsGraph-left, kept_edges_are}
 use Rattle.mutual_merge.proofs.PairRounds.{linked_graph, link_of}
-use Rattle.mutual_merge.proofs.PartedGraphs.{aside_cases}
 
 -- regions of the same names stand in the same order
 pub Ascend-same_names : (rs ss : List Region) → length ss ≡ length rs → ((k : ℕ) → k < length rs → name_at ss k ≡ name_at rs k)

@@ -1,12 +1,11 @@
 -- Places in a list of regions by ascending name.
-use Rattle.std.proofs.Common.{◌≡◌, ◌≢◌, ◌⊎◌, inl, inr, ℕ, zero, suc, ◌+◌, ◌^◌, ◌<◌, ◌≤◌, Bool, true, false, ltb, List, [], ◌∷◌, length, get_or, refl, sym, ap, ◌∙◌, subst, arith}
-use Rattle.std.specs.Prelude.{Contains, AllPairs}
+use Rattle.std.proofs.Common.{◌≡◌, ◌⊎◌, inl, inr, ℕ, zero, suc, ◌<◌, ◌≤◌, true, false, ltb, List, length, get_or, ap, ◌∙◌, arith}
+use Rattle.std.specs.Prelude.{Contains}
 use Rattle.std.specs.List.Sorted.{IsNonDecreasingBy, IsPartitionPoint}
-use Rattle.std.proofs.lemmas.Bool.{ltb-true, ltb-false, false≢true}
-use Rattle.std.proofs.lemmas.Bool.Decides.{nat_tests}
+use Rattle.std.proofs.lemmas.Bool.{ltb-true, ltb-false}
 use Rattle.std.proofs.lemmas.List.{get_or_default}
 use Rattle.agglo_model.specs.RegionGraph.{Region}
-use Rattle.mutual_merge.specs.Linked.{Ascend, region_at, name_at, faces_at}
+use Rattle.mutual_merge.specs.Linked.{Ascend, region_at, name_at}
 
 -- names ascend with places
 pub names_ascend : (rs : List Region) (i j : ℕ) → Ascend rs → i < j → j < length rs → name_at rs i < name_at rs j

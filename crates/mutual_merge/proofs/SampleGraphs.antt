@@ -1,12 +1,12 @@
 -- Numbers that pass the test of graphs are those of a graph.
-use Rattle.std.proofs.Common.{◌≡◌, ◌⊎◌, inl, inr, ℕ, ◌+◌, ◌<◌, ◌≤◌, Bool, true, false, ◌&&◌, ◌||◌, eqb, ltb, leb, List, [], ◌∷◌, refl, sym, ap, ◌∙◌, subst, arith}
+use Rattle.std.proofs.Common.{◌≡◌, ◌⊎◌, inl, inr, ℕ, ◌<◌, ◌≤◌, Bool, true, false, ◌&&◌, ◌||◌, eqb, ltb, leb, List, [], ◌∷◌, refl, sym, subst, arith}
 use Rattle.std.specs.Prelude.{Contains, AllPairs, IsTrue, map, sum_by}
 use Rattle.std.specs.List.{list_all, list_any}
 use Rattle.std.proofs.lemmas.Bool.{false≢true}
 use Rattle.std.proofs.lemmas.Bool.Decides.{nat_tests}
 use Rattle.std.proofs.lemmas.List.Kept.{AllPairs-cons}
 use Rattle.agglo_model.specs.PairOrder.{most_edges}
-use Rattle.agglo_model.specs.RegionGraph.{Region, GraphEdge, RegionGraph, IsGraph, IsWithinEdges, StandsBefore}
+use Rattle.agglo_model.specs.RegionGraph.{Region, GraphEdge, IsGraph, IsWithinEdges, StandsBefore}
 use Rattle.agglo_model.proofs.Members.{contains_cases, contains_head, contains_none, contains_tail, All-from_contains}
 use Rattle.mutual_merge.specs.Samples.{graph_test, regions_test, edges_test, edge_test, sample_region, sample_edge}
 

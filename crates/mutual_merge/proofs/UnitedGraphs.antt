@@ -1,17 +1,16 @@
 -- What is left of the awake part, united with what was laid aside: whatever settles it settles the graph.
-use Rattle.std.proofs.Common.{◌≡◌, ◌≢◌, ◌⊎◌, inl, inr, ℕ, ◌+◌, ◌<◌, List, [], ◌∷◌, ◌++◌, append_assoc, refl, sym, ap, ◌∙◌, subst, arith}
-use Rattle.std.specs.Prelude.{◌↔◌, map, Contains, bit_and}
+use Rattle.std.proofs.Common.{◌≡◌, ◌≢◌, ◌⊎◌, inl, inr, ℕ, ◌<◌, List, ◌++◌, refl, sym, ◌∙◌, subst, arith}
+use Rattle.std.specs.Prelude.{Contains, bit_and}
 use Rattle.agglo_model.specs.PairOrder.{Threshold, added}
 use Rattle.agglo_model.specs.Greedy.{Merge}
 use Rattle.agglo_model.specs.RegionGraph.{Region, GraphEdge, RegionGraph, IsGraph, HasRegion, no_contact, contact_in}
-use Rattle.agglo_model.specs.Settling.{IsAt, IsLeft, IsLeftOf, IsHeldBack, Settles}
+use Rattle.agglo_model.specs.Settling.{IsLeft, IsLeftOf, Settles}
 use Rattle.agglo_model.proofs.GraphContacts.{contact_in-append, contact_in-tie-le, added-none, none-added}
 use Rattle.agglo_model.proofs.GraphEdges.{edge_contact, edge_there, edge_of_contact}
 use Rattle.agglo_model.proofs.GraphFirsts.{contact_in-none}
-use Rattle.agglo_model.proofs.GraphMerges.{contact_in-swap}
 use Rattle.agglo_model.proofs.RegionLists.{one_region}
-use Rattle.mutual_merge.specs.Parts.{AreAside, FitsAside, IsParted, IsUnited}
-use Rattle.mutual_merge.proofs.PartedGraphs.{IsLed, aside_cases, awake_leads, awake_between, awake_none}
+use Rattle.mutual_merge.specs.Parts.{FitsAside, IsParted, IsUnited}
+use Rattle.mutual_merge.proofs.PartedGraphs.{aside_cases, awake_leads, awake_between, awake_none}
 use Rattle.mutual_merge.proofs.TrimmedGraphs.{IsTrimmed, IsTrimmed-left, same_between, trimmed_settles, leads_settles}
 
 -- a region laid aside is among those that are left, where it is held back

@@ -2,11 +2,9 @@
 use Rattle.std.specs.Prelude.{◌≡◌, ◌≢◌, ℕ, ◌<◌, ◌⊎◌, ◌↔◌, Bool, false, ◌&&◌, IsTrue, List, map, filter, length, Contains, slice_index_or, bit_and}
 use Rattle.std.specs.List.{range_with_len}
 use Rattle.agglo_model.specs.PairOrder.{Threshold, Reaches}
-use Rattle.agglo_model.specs.Greedy.{Merge}
-use Rattle.agglo_model.specs.RegionGraph.{Region, RegionGraph, GraphEdge}
-use Rattle.agglo_model.specs.Settling.{IsLeftOf, Settles}
+use Rattle.agglo_model.specs.RegionGraph.{Region, GraphEdge}
 use Rattle.mutual_merge.specs.declared.links.Link.{Link}
-use Rattle.mutual_merge.specs.Linked.{AreLinked, IsAtPlace, region_at, faces_at, name_at, edges_by, graph_of}
+use Rattle.mutual_merge.specs.Linked.{IsAtPlace, region_at, faces_at, name_at, edges_by}
 
 -- whether the region at a place is kept
 abbrev pub is_kept : List Bool → ℕ → Bool

@@ -1,5 +1,5 @@
 -- A region graph whose edges name regions by their places in the list of regions.
-use Rattle.std.specs.Prelude.{◌≡◌, ℕ, ◌<◌, ◌≤◌, ◌^◌, ◌⊎◌, List, map, length, sum_by, Contains, All, AllPairs, slice_index_or}
+use Rattle.std.specs.Prelude.{◌≡◌, ℕ, ◌<◌, ◌≤◌, ◌^◌, ◌⊎◌, List, map, length, sum_by, All, AllPairs, slice_index_or}
 use Rattle.agglo_model.specs.PairOrder.{most_edges}
 use Rattle.agglo_model.specs.RegionGraph.{Region, GraphEdge, RegionGraph}
 use Rattle.mutual_merge.specs.declared.links.Link.{Link}

@@ -1,5 +1,5 @@
 -- Graphs given by plain numbers, for tests.
-use Rattle.std.specs.Prelude.{ℕ, ◌+◌, nat_lt, nat_le, Bool, true, ◌==◌, ◌&&◌, ◌||◌, List, [], ◌∷◌, map, sum_by}
+use Rattle.std.specs.Prelude.{ℕ, nat_lt, nat_le, Bool, true, ◌==◌, ◌&&◌, ◌||◌, List, [], ◌∷◌, map, sum_by}
 use Rattle.std.specs.List.{list_all, list_any}
 use Rattle.agglo_model.specs.PairOrder.{most_edges}
 use Rattle.agglo_model.specs.RegionGraph.{Region, GraphEdge}

@@ -1,4 +1,4 @@
-use Rattle.std.proofs.Common.{List, [], ◌∙◌, sym, ap, subst}
+use Rattle.std.proofs.Common.{[], ◌∙◌, sym, ap, subst}
 use Rattle.std.proofs.lemmas.List.{take_all}
 use Rattle.agglo_model.specs.RegionGraph.{GraphEdge, HasRegion}
 use Rattle.mutual_merge.proofs.LinkedEdges.{AreLinked-from_edges}

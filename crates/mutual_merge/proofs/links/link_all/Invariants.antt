@@ -1,4 +1,4 @@
-use Rattle.std.proofs.Common.{◌≡◌, ◌≤◌, ◌^◌, length, take, All}
+use Rattle.std.proofs.Common.{◌≡◌, length, take, All}
 use Rattle.mutual_merge.specs.Linked.{edges_by, name_at}
 use Rattle.mutual_merge.proofs.LinkedEdges.{IsInside}
 use Rattle.mutual_merge.proofs.links.link_all.Given as goal

@@ -1,4 +1,4 @@
-use Rattle.std.proofs.Common.{ℕ, ◌<◌, ◌-◌, length, arith}
+use Rattle.std.proofs.Common.{◌<◌, ◌-◌, length, arith}
 use Rattle.mutual_merge.proofs.RegionPlaces.{place_below_name}
 use Rattle.mutual_merge.proofs.links.see_fit.Goals as goal
 

@@ -1,4 +1,4 @@
-use Rattle.std.proofs.Common.{◌≡◌, ◌∙◌, ◌+◌, ◌≤◌, ℕ, List, get_or, take, sym, ap, arith}
+use Rattle.std.proofs.Common.{ℕ, List, sym, ap, arith}
 use Rattle.std.proofs.lemmas.List.{get_or_read}
 use Rattle.std.proofs.lemmas.List.Sums.{sum_by_more_le}
 use Rattle.mutual_merge.specs.declared.links.Link.{Link}

@@ -1,4 +1,4 @@
-use Rattle.std.proofs.Common.{◌≡◌, ◌∙◌, ◌+◌, ◌≤◌, ◌++◌, ◌∷◌, [], ℕ, List, length, sym, ap, subst, arith}
+use Rattle.std.proofs.Common.{◌≡◌, ◌∙◌, ◌+◌, ◌++◌, ◌∷◌, [], ℕ, List, length, sym, ap, subst, arith}
 use Rattle.agglo_model.specs.RegionGraph.{Region}
 use Rattle.mutual_merge.proofs.Survival.{SurvivorsSoFar, AtRegion, step_skip, step_keep, AreSurvivors-all}
 use Rattle.mutual_merge.proofs.merging.keep_survivors.Goals as goal

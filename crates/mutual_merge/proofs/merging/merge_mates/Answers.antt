@@ -1,4 +1,4 @@
-use Rattle.std.proofs.Common.{◌≡◌, ◌≤◌, ◌^◌, List, length, rules, sym, subst, arith}
+use Rattle.std.proofs.Common.{◌≤◌, List, length, rules, sym, subst, arith}
 use Rattle.std.specs.Prelude.{AllPairs}
 use Rattle.std.proofs.lemmas.List.Sorted.{IsNonDecreasingBy-from_sort_by_key}
 use Rattle.agglo_model.specs.PairOrder.{most_edges}

@@ -1,10 +1,8 @@
-use Rattle.std.proofs.Common.{◌≡◌, ◌∙◌, ◌+◌, ◌++◌, ◌∷◌, [], ◌≢◌, ℕ, List, Bool, sym, ap, refl, subst, arith, false, true}
+use Rattle.std.proofs.Common.{◌≡◌, ◌∙◌, ◌+◌, ◌++◌, ◌∷◌, [], ◌≢◌, ℕ, List, Bool, sym, ap, refl, subst, false, true}
 use Rattle.std.proofs.lemmas.Bool.{false≢true}
 use Rattle.std.proofs.lemmas.List.{get_or_read}
-use Rattle.std.proofs.lemmas.List.Elements.{All-contains}
-use Rattle.std.specs.Prelude.{Contains, bit_and}
+use Rattle.std.specs.Prelude.{bit_and}
 use Rattle.agglo_model.specs.RegionGraph.{Region, HasRegion}
-use Rattle.agglo_model.specs.Settling.{IsHeldBack}
 use Rattle.mutual_merge.specs.Linked.{region_at}
 use Rattle.mutual_merge.specs.Parts.{IsRestored}
 use Rattle.mutual_merge.proofs.MadeRegions.{AreMade, made_more}

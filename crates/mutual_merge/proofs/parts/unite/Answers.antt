@@ -1,5 +1,4 @@
-use Rattle.std.proofs.Common.{◌≡◌, ◌∙◌, ℕ, ◌+◌, ◌≤◌, List, ◌++◌, sym, ap, subst, arith}
-use Rattle.agglo_model.specs.RegionGraph.{Region, GraphEdge, RegionGraph, IsGraph}
+use Rattle.std.proofs.Common.{◌≡◌, ◌∙◌, ◌++◌, sym, subst}
 use Rattle.region_graph.specs.Lists.{AreOrdered}
 use Rattle.mutual_merge.specs.Parts.{AreRestored, IsUnited}
 use Rattle.mutual_merge.proofs.UnitePlaces.{AreSummed, both_ordered, united_graph, are_united}

@@ -1,4 +1,4 @@
-use Rattle.std.proofs.Common.{◌≡◌, ◌∙◌, ◌+◌, ◌++◌, ◌∷◌, [], ℕ, List, Bool, true, false, length, take, sym, ap, subst, arith}
+use Rattle.std.proofs.Common.{◌∙◌, ◌++◌, ◌∷◌, [], ℕ, List, Bool, length, take, sym, subst}
 use Rattle.std.proofs.lemmas.Bool.{false≢true}
 use Rattle.std.proofs.lemmas.List.Elements.{All-get_or}
 use Rattle.agglo_model.specs.PairOrder.{Threshold}
@@ -6,7 +6,7 @@ use Rattle.mutual_merge.specs.declared.links.Link.{Link}
 use Rattle.mutual_merge.specs.Linked.{IsLink}
 use Rattle.mutual_merge.specs.Left.{KeepsReaching}
 use Rattle.mutual_merge.proofs.MovedLinks.{more_links}
-use Rattle.mutual_merge.proofs.KeptRegions.{KeepsReaching-skip, KeepsReaching-take, ends_kept}
+use Rattle.mutual_merge.proofs.KeptRegions.{KeepsReaching-skip, KeepsReaching-take}
 use Rattle.mutual_merge.proofs.residue.keep_reaching.Goals as goal
 use Rattle.mutual_merge.proofs.residue.keep_reaching.Goals.{then-reaches, else-reaches}
 

@@ -1,6 +1,5 @@
-use Rattle.std.proofs.Common.{◌≡◌, ◌∙◌, ℕ, List, Bool, sym, ap, subst, arith}
+use Rattle.std.proofs.Common.{◌≡◌, ◌∙◌, List, Bool, sym, ap, subst, arith}
 use Rattle.std.specs.Prelude.{sum_by}
-use Rattle.agglo_model.specs.PairOrder.{Threshold}
 use Rattle.agglo_model.specs.RegionGraph.{Region, GraphEdge, RegionGraph, IsGraph, IsWithinEdges}
 use Rattle.agglo_model.specs.Settling.{IsLeftOf}
 use Rattle.mutual_merge.specs.declared.links.Link.{Link}

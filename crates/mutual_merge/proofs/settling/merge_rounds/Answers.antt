@@ -2,12 +2,10 @@ use Rattle.std.proofs.Common.{◌≡◌, ◌∙◌, ◌++◌, ◌<◌, ℕ, List
 use Rattle.std.proofs.lemmas.Bool.Decides.{nat_tests}
 use Rattle.agglo_model.specs.PairOrder.{Threshold}
 use Rattle.agglo_model.specs.RegionGraph.{Region}
-use Rattle.agglo_model.specs.Greedy.{Merge}
 use Rattle.mutual_merge.specs.declared.links.Link.{Link}
-use Rattle.mutual_merge.specs.Linked.{AreLinked, graph_of}
+use Rattle.mutual_merge.specs.Linked.{graph_of}
 use Rattle.mutual_merge.specs.Pairs.{IsPairing, merge_of}
 use Rattle.mutual_merge.specs.Merged.{AreMerged, AreMutual}
-use Rattle.mutual_merge.specs.Trimmed.{AreTrimmed}
 use Rattle.mutual_merge.specs.Rounds.{Carries, HasMerged}
 use Rattle.mutual_merge.proofs.TrimmedGraphs.{carries_trimmed, carries_round}
 use Rattle.mutual_merge.proofs.PairRounds.{AreMutual-pairing, linked_graph, pairs_lead, fewer_regions, none_reciprocal}

@@ -1,12 +1,10 @@
-use Rattle.std.proofs.Common.{◌≡◌, ◌∙◌, ◌++◌, ◌≤◌, append_assoc, List, Bool, Option, Some, None, refl, sym, ap, subst, arith}
-use Rattle.std.specs.Prelude.{IfSome, IsNone}
-use Rattle.agglo_model.specs.PairOrder.{most_edges}
-use Rattle.agglo_model.specs.RegionGraph.{RegionGraph, IsGraph, grid_edges}
+use Rattle.std.proofs.Common.{◌≡◌, ◌∙◌, ◌++◌, append_assoc, List, refl, sym, ap, subst, arith}
+use Rattle.std.specs.Prelude.{IsNone}
+use Rattle.agglo_model.specs.RegionGraph.{RegionGraph, IsGraph}
 use Rattle.agglo_model.specs.Greedy.{Merge}
 use Rattle.agglo_model.specs.Settling.{Settles}
 use Rattle.mutual_merge.specs.Linked.{graph_of}
 use Rattle.mutual_merge.specs.Parts.{IsParted}
-use Rattle.mutual_merge.specs.Rounds.{HasMerged, MayBeParted}
 use Rattle.mutual_merge.proofs.PairRounds.{linked_graph}
 use Rattle.mutual_merge.proofs.TrimmedGraphs.{carries_end}
 use Rattle.mutual_merge.proofs.UnitedGraphs.{fits_aside, parts_settle}

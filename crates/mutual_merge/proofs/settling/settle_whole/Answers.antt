@@ -1,4 +1,4 @@
-use Rattle.std.proofs.Common.{◌≡◌, ◌∙◌, ◌≤◌, Option, Some, None, Bool, true, false, refl, sym, ap, subst, arith}
+use Rattle.std.proofs.Common.{Option, Some, None, refl, ap, subst, arith}
 use Rattle.std.specs.Prelude.{IsNone, IfSome}
 use Rattle.std.proofs.lemmas.Bool.{false≢true}
 use Rattle.agglo_model.specs.RegionGraph.{grid_edges}
