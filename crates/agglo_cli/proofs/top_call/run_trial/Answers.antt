@@ -22,6 +22,6 @@ returns g c =
       chunk = c.args.plan.now.chunk;
       workers = c.args.plan.now.settings.workers;
     }) _ _ _ _ _ _ _ _ _ c.in_ok-volume.ensures c.in_ok-cutting.ensures.1 c.in_ok-cutting.ensures.0 c.in_ok-answer.ensures.axes
-        c.in_ok-answer.ensures.answer (c.as_bytes.ensures.value ∙ c.in_ok-report.ensures) in
+    c.in_ok-answer.ensures.answer (c.as_bytes.ensures.value ∙ c.in_ok-report.ensures) in
     done_or_stopped _ c.put_all.result c.map_err.result _ _ _ _ _ found c.put_all.ensures c.map_err.ensures.cases
     (λ e d is. search rules)
