@@ -21,8 +21,7 @@ use Rattle.refusals.specs.declared.refusal.Refusal.{Refusal}
 use Rattle.refusals.specs.declared.refusal.Refusal.TheVariants.{Volume, Leaves}
 use Rattle.refusals.specs.Refusal.{volume_refusal}
 use Rattle.agglo_cli.specs.Answers.{ReadsCutVolume}
-use Rattle.agglo_cli.specs.Flaws.{volume_flaw_refusal, sizes_refusal, leaves_refusal, segment_refusal, RefusesInput, RefusesNumbers}
-use Rattle.agglo_cli.specs.Reading.{OpensFile}
+use Rattle.agglo_cli.specs.Flaws.{IsCutFlaw, volume_flaw_refusal, sizes_refusal, leaves_refusal, segment_refusal, RefusesInput, RefusesNumbers}
 use Rattle.agglo_cli.proofs.ReadFile.{if_some, if_both, any_bytes, opens_file, fails_to_read, reads_volume, told_flaw}
 
 -- ---- the number of leaves
@@ -37,27 +36,22 @@ judged x y z later =
     else (if z then Some (ChunkZero 2)
     else later))
 
--- a flaw that is not of a size of 0
-counted : Bool → ℕ → Option SizesFlaw
-counted many leaves = if many then Some (TooManyLeaves leaves) else None
-
 -- sizes that are not 0 have no flaw but too many leaves
-flaw_of_some : (axes : Axes) (chunk : List ℕ) → AreSomeSizes chunk → sizes_flaw axes chunk
-    ≡ counted (nat_lt (2 ^ 18) (cells_at (chunking axes chunk) 0)) (cells_at (chunking axes chunk) 0)
-unfolding sizes_flaw judged counted
-flaw_of_some axes chunk some = λ i. judged (not_zero (slice_index chunk 0) some.x i) (not_zero (slice_index chunk 1) some.y i)
-    (not_zero (slice_index chunk 2) some.z i) (counted (nat_lt (2 ^ 18) (cells_at (chunking axes chunk) 0)) (cells_at (chunking axes chunk) 0))
-
-never_zero : (many : Bool) (leaves axis : ℕ) → counted many leaves ≡ Some (ChunkZero axis) → ⊥
-unfolding counted
-never_zero true leaves axis e = cc e
-never_zero false leaves axis e = cc e
+never_zero : (x y z many : Bool) (leaves axis : ℕ) → x ≡ false → y ≡ false → z ≡ false
+    → judged x y z (if many then Some (TooManyLeaves leaves) else None) ≡ Some (ChunkZero axis) → ⊥
+unfolding judged
+never_zero true y z many leaves axis p q r e = cc p
+never_zero false true z many leaves axis p q r e = cc q
+never_zero false false true many leaves axis p q r e = cc r
+never_zero false false false true leaves axis p q r e = cc e
+never_zero false false false false leaves axis p q r e = cc e
 
 pub no_zero : (axes : Axes) (chunk : List ℕ) (fault : CutFault) (axis : ℕ) → AreSomeSizes chunk → fault ≡ faults.ChunkZero axis
     → sizes_flaw axes chunk ≡ Some (flaw_of fault) → ⊥
-no_zero axes chunk fault axis some is e =
-    never_zero (nat_lt (2 ^ 18) (cells_at (chunking axes chunk) 0)) (cells_at (chunking axes chunk) 0) axis
-    (sym (flaw_of_some axes chunk some) ∙ e ∙ ap (λ (f : CutFault). Some (flaw_of f)) is)
+unfolding sizes_flaw judged
+no_zero axes chunk fault axis some is e = never_zero _ _ _ _ _ axis (not_zero (slice_index chunk 0) some.x)
+    (not_zero (slice_index chunk 1) some.y) (not_zero (slice_index chunk 2) some.z)
+    (e ∙ ap (λ (f : CutFault). Some (flaw_of f)) is)
 
 -- what a cutting answers is what the leaves are refused for
 pub too_many : (axes : Axes) (chunk : List ℕ) (fault : CutFault) (leaves : ℕ) → fault ≡ faults.TooManyLeaves leaves
@@ -85,12 +79,15 @@ first_flaw None later fault e = cc e
 first_flaw (Some flaw) later fault e = ap (option_map Volume) e
 
 bad_head : (name chunk : List ℕ) (fault : VolumeFault) (s t u : DeskState) → OpensInput name s t → FindsBadHead fault t u
-    → OpensFile name (λ bytes. segment_refusal chunk bytes ≡ Some (Volume fault)) s u
-bad_head name chunk fault s t u o f = opens_file name _ s t u _ o
-    (if_some t.input _ _ (λ bytes e. first_flaw (header_flaw bytes) _ fault e) f.flaw) f.after
+    → RefusesInput IsCutFlaw (segment_refusal chunk) name (Volume fault) s u
+bad_head name chunk fault s t u o f = (
+  tt,
+  opens_file name _ s t u _ o
+      (if_some t.input _ _ (λ bytes e. first_flaw (header_flaw bytes) _ fault e) f.flaw) f.after,
+)
 
 pub no_head : (name chunk : List ℕ) (fault : VolumeFault) (s t u : DeskState) → OpensInput name s t → FailsToReadHead fault t u
-    → RefusesInput (segment_refusal chunk) name (volume_refusal fault) s u
+    → RefusesInput IsCutFlaw (segment_refusal chunk) name (volume_refusal fault) s u
 no_head name chunk Read s t u o f = fails_to_read name s t u o f
 no_head name chunk Memory s t u o f = absurd f
 no_head name chunk (ShortHeader got) s t u o f = bad_head name chunk _ s t u o f
@@ -114,16 +111,19 @@ after_head axes chunk bytes sound says =
 
 many_leaves : (name chunk : List ℕ) (axes : Axes) (leaves : ℕ) (s t u : DeskState) → OpensInput name s t → ReadsHead axes t u
     → leaves_refusal axes chunk ≡ Some (Leaves leaves)
-    → OpensFile name (λ bytes. segment_refusal chunk bytes ≡ Some (Leaves leaves)) s u
-many_leaves name chunk axes leaves s t u o r e = opens_file name _ s t u _ o
-    (if_both t.input _ _ _ (λ bytes sound says. after_head axes chunk bytes sound says
-    ∙ ap (λ (l : Option Refusal). option_or l (volume_flaw_refusal (body_flaw axes (body bytes)))) e) r.sound r.says) r.after
+    → RefusesInput IsCutFlaw (segment_refusal chunk) name (Leaves leaves) s u
+many_leaves name chunk axes leaves s t u o r e = (
+  tt,
+  opens_file name _ s t u _ o
+      (if_both t.input _ _ _ (λ bytes sound says. after_head axes chunk bytes sound says
+      ∙ ap (λ (l : Option Refusal). option_or l (volume_flaw_refusal (body_flaw axes (body bytes)))) e) r.sound r.says) r.after,
+)
 
 pub refused_leaves : (name chunk : List ℕ) (axes : Axes) (refusal : Refusal) (s t u : DeskState) → OpensInput name s t → ReadsHead axes t u
-    → leaves_refusal axes chunk ≡ Some refusal → RefusesInput (segment_refusal chunk) name refusal s u
+    → leaves_refusal axes chunk ≡ Some refusal → RefusesInput IsCutFlaw (segment_refusal chunk) name refusal s u
 refused_leaves name chunk axes refusal s t u o r e =
     let are = leaves_are (sizes_flaw axes chunk) refusal e in
-    subst (λ (f : Refusal). RefusesInput (segment_refusal chunk) name f s u) are.1
+    subst (λ (f : Refusal). RefusesInput IsCutFlaw (segment_refusal chunk) name f s u) are.1
     (many_leaves name chunk axes are.0 s t u o r (e ∙ ap (λ (f : Refusal). Some f) (sym are.1)))
 
 -- ---- a body
@@ -138,19 +138,21 @@ body_input axes t u P r h = of_body t.input P (subst (λ (i : Option (List ℕ))
 
 bad_body : (name chunk : List ℕ) (axes : Axes) (fault : VolumeFault) (s t u v : DeskState) → OpensInput name s t → ReadsHead axes t u
     → leaves_refusal axes chunk ≡ None → FindsBadBody axes fault u v
-    → OpensFile name (λ bytes. segment_refusal chunk bytes ≡ Some (Volume fault)) s v
+    → RefusesInput IsCutFlaw (segment_refusal chunk) name (Volume fault) s v
 bad_body name chunk axes fault s t u v o r few f =
     let flaw = body_input axes t u (λ bytes. option_map fault_of (body_flaw axes bytes) ≡ Some fault) r f.flaw in
     let judged = if_both t.input _ _ (λ bytes. segment_refusal chunk bytes ≡ volume_flaw_refusal (body_flaw axes (body bytes)))
     (λ bytes sound says. after_head axes chunk bytes sound says
-    ∙ ap (λ (l : Option Refusal). option_or l (volume_flaw_refusal (body_flaw axes (body bytes)))) few) r.sound r.says in
-    opens_file name _ s t v _ o
-    (if_both t.input _ _ _ (λ bytes e k. e ∙ told_flaw (body_flaw axes (body bytes)) fault k) judged flaw)
-    (f.after ∙ ap (taken (edge_count axes + 1)) r.after)
+    ∙ ap (λ (l : Option Refusal). option_or l (volume_flaw_refusal (body_flaw axes (body bytes)))) few) r.sound r.says in (
+      tt,
+      opens_file name _ s t v _ o
+          (if_both t.input _ _ _ (λ bytes e k. e ∙ told_flaw (body_flaw axes (body bytes)) fault k) judged flaw)
+          (f.after ∙ ap (taken (edge_count axes + 1)) r.after),
+    )
 
 pub no_body : (name chunk : List ℕ) (axes : Axes) (fault : VolumeFault) (s t u v : DeskState) → OpensInput name s t → ReadsHead axes t u
     → leaves_refusal axes chunk ≡ None → FailsToReadBody axes fault u v
-    → RefusesInput (segment_refusal chunk) name (volume_refusal fault) s v
+    → RefusesInput IsCutFlaw (segment_refusal chunk) name (volume_refusal fault) s v
 no_body name chunk axes Read s t u v o r few f = fails_to_read name s t v o (fails_later header_length t u v r.after f)
 no_body name chunk axes Memory s t u v o r few f = opens_file name _ s t v _ o (any_bytes t.input) (f.after ∙ ap (taken f.count) r.after)
 no_body name chunk axes (Truncated got) s t u v o r few f = bad_body name chunk axes _ s t u v o r few f

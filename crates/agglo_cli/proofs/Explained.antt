@@ -9,7 +9,7 @@ use Rattle.refusals.specs.declared.refusal.Refusal.{Refusal}
 use Rattle.refusals.specs.declared.refusal.Refusal.TheVariants.{Memory, Words, Volume, Leaves, Input, Output, Tree}
 use Rattle.refusals.specs.Refusal.{status_of}
 use Rattle.agglo_cli.specs.Answers.{Finds}
-use Rattle.agglo_cli.specs.Flaws.{RefusesInput, RefusesNumbers, RefusesStart, IsJudged, HasInput, ComesFirst}
+use Rattle.agglo_cli.specs.Flaws.{IsVolumeFlaw, IsCutFlaw, IsTreeFlaw, basins_refusal, segment_refusal, show_refusal, RefusesInput, RefusesNumbers, RefusesStart, IsJudged, HasInput, MayHideFlaw}
 use Rattle.agglo_cli.specs.Headline.{IsAgglomerated, IsMade, IsTried}
 use Rattle.agglo_cli.specs.Reading.{OnlyInputChanges, HasFile}
 use Rattle.agglo_cli.specs.Run.{FinishesTask, RefusesTask, StopsTask, RefusesRun, Told, Finishes, NamesAFlawedInput, NamesAGoodInput, WritesNothing}
@@ -122,11 +122,11 @@ done_not_flawed words s t P one f status n =
 
 -- a task that started has words
 no_words : (task : Task) (s t : DeskState) → RefusesStart task Words s t → ⊥
-no_words (Basins settings) s t f = f
-no_words (Segment settings) s t f = f
+no_words (Basins settings) s t f = f.0
+no_words (Segment settings) s t f = f.0
 no_words (Make settings) s t f = f
 no_words (Trial settings) s t f = f
-no_words (Show tree) s t f = f
+no_words (Show tree) s t f = f.0
 
 pub settings_refused : (words : List (List ℕ)) (task : Task) (refusal : Refusal) (s t : DeskState) → Spells words task
     → RefusesTask task refusal s t → RefusesRun words refusal s t
@@ -200,13 +200,13 @@ flaw_judged refusal words task s t flaw one spelled f status n =
     sym (n.status_is ∙ ap status_of (some_is (one_cause task refusal (Some n.refusal) s t flaw f judged)))
 
 exactly_judged : (refusal : Refusal) (words : List (List ℕ)) (s t : DeskState) → OneTask → RefusesRun words refusal s t → (status : ℕ)
-    → (n : NamesAFlawedInput words status s) → (status_of refusal ≡ status) ⊎ ComesFirst n.task (status_of refusal)
+    → (n : NamesAFlawedInput words status s) → (status_of refusal ≡ status) ⊎ MayHideFlaw n.task (status_of refusal)
 unfolding TellsFlaw
 exactly_judged Memory words s t one f status n = inr (memory_first n.task)
 exactly_judged Words words s t one f status n = absurd (f.0 n.task n.spelled)
 exactly_judged (Volume fault) words s t one f status n = inl (flaw_judged (Volume fault) words f.task s t tt one f.spelled f.refused status n)
 exactly_judged (Leaves leaves) words s t one f status n = inl (flaw_judged (Leaves leaves) words f.task s t tt one f.spelled f.refused status n)
-exactly_judged Input words s t one f status n = inr (subst (λ (task : Task). ComesFirst task 5)
+exactly_judged Input words s t one f status n = inr (subst (λ (task : Task). MayHideFlaw task 5)
     (one words f.task n.task f.spelled n.spelled) (fault_first f.task s t f.refused))
 exactly_judged Output words s t one f status n =
     not_flawed words f.task f.refused.answer status s f.refused.mid _ one f.spelled f.refused.found n
@@ -292,15 +292,15 @@ nothing_alone s t e = e ∙ sym (ap (λ (z : DeskState). record s {
   input = z.input;
 }) e)
 
-file_alone : (refusal_of : List ℕ → Option Refusal) (name : List ℕ) (refusal : Refusal) (s t : DeskState)
-    → RefusesInput refusal_of name refusal s t → OnlyInputChanges s t
-file_alone refusal_of name Memory s t f = input_alone s t f.after
-file_alone refusal_of name Words s t f = absurd f
-file_alone refusal_of name (Volume fault) s t f = input_alone s t f.after
-file_alone refusal_of name (Leaves leaves) s t f = input_alone s t f.after
-file_alone refusal_of name Input s t f = f.after
-file_alone refusal_of name Output s t f = absurd f
-file_alone refusal_of name (Tree fault) s t f = input_alone s t f.after
+file_alone : (IsFlaw : Refusal → Type 0) (refusal_of : List ℕ → Option Refusal) (name : List ℕ) (refusal : Refusal) (s t : DeskState)
+    → RefusesInput IsFlaw refusal_of name refusal s t → OnlyInputChanges s t
+file_alone IsFlaw refusal_of name Memory s t f = input_alone s t f.after
+file_alone IsFlaw refusal_of name Words s t f = input_alone s t f.1.after
+file_alone IsFlaw refusal_of name (Volume fault) s t f = input_alone s t f.1.after
+file_alone IsFlaw refusal_of name (Leaves leaves) s t f = input_alone s t f.1.after
+file_alone IsFlaw refusal_of name Input s t f = f.after
+file_alone IsFlaw refusal_of name Output s t f = input_alone s t f.1.after
+file_alone IsFlaw refusal_of name (Tree fault) s t f = input_alone s t f.1.after
 
 -- where no file is read, nothing changes
 numbers_same : (cause : Option Refusal) (refusal : Refusal) (s t : DeskState) → RefusesNumbers cause refusal s t → t ≡ s
@@ -313,11 +313,11 @@ numbers_same cause Output s t f = absurd f
 numbers_same cause (Tree fault) s t f = absurd f
 
 start_alone : (task : Task) (refusal : Refusal) (s t : DeskState) → RefusesStart task refusal s t → OnlyInputChanges s t
-start_alone (Basins settings) refusal s t f = file_alone _ _ refusal s t f
-start_alone (Segment settings) refusal s t f = file_alone _ _ refusal s t f
+start_alone (Basins settings) refusal s t f = file_alone IsVolumeFlaw basins_refusal _ refusal s t f
+start_alone (Segment settings) refusal s t f = file_alone IsCutFlaw (segment_refusal settings.chunk) _ refusal s t f
 start_alone (Make settings) refusal s t f = nothing_alone s t (numbers_same _ refusal s t f)
 start_alone (Trial settings) refusal s t f = nothing_alone s t (numbers_same _ refusal s t f)
-start_alone (Show tree) refusal s t f = file_alone _ _ refusal s t f
+start_alone (Show tree) refusal s t f = file_alone IsTreeFlaw show_refusal _ refusal s t f
 
 run_alone : (refusal : Refusal) (words : List (List ℕ)) (s t : DeskState) → RefusesRun words refusal s t → status_of refusal ≢ 6
     → OnlyInputChanges s t
@@ -372,25 +372,25 @@ found_stays name (Some fs) old new found stays = stays found
 abbrev Misses_stay : DeskState → DeskState → Type 0
 Misses_stay s t = IfSome s.files (λ _. t.misses ≡ s.misses)
 
-file_misses : (refusal_of : List ℕ → Option Refusal) (name : List ℕ) (refusal : Refusal) (s t : DeskState)
-    → RefusesInput refusal_of name refusal s t → HasFile s name → Misses_stay s t
-file_misses refusal_of name Memory s t f has = everywhere s.files _ (ap (λ (z : DeskState). z.misses) f.after)
-file_misses refusal_of name Words s t f has = absurd f
-file_misses refusal_of name (Volume fault) s t f has = everywhere s.files _ (ap (λ (z : DeskState). z.misses) f.after)
-file_misses refusal_of name (Leaves leaves) s t f has = everywhere s.files _ (ap (λ (z : DeskState). z.misses) f.after)
-file_misses refusal_of name Input s t f has = found_stays name s.files s.misses t.misses has f.misses
-file_misses refusal_of name Output s t f has = absurd f
-file_misses refusal_of name (Tree fault) s t f has = everywhere s.files _ (ap (λ (z : DeskState). z.misses) f.after)
+file_misses : (IsFlaw : Refusal → Type 0) (refusal_of : List ℕ → Option Refusal) (name : List ℕ) (refusal : Refusal) (s t : DeskState)
+    → RefusesInput IsFlaw refusal_of name refusal s t → HasFile s name → Misses_stay s t
+file_misses IsFlaw refusal_of name Memory s t f has = everywhere s.files _ (ap (λ (z : DeskState). z.misses) f.after)
+file_misses IsFlaw refusal_of name Words s t f has = everywhere s.files _ (ap (λ (z : DeskState). z.misses) f.1.after)
+file_misses IsFlaw refusal_of name (Volume fault) s t f has = everywhere s.files _ (ap (λ (z : DeskState). z.misses) f.1.after)
+file_misses IsFlaw refusal_of name (Leaves leaves) s t f has = everywhere s.files _ (ap (λ (z : DeskState). z.misses) f.1.after)
+file_misses IsFlaw refusal_of name Input s t f has = found_stays name s.files s.misses t.misses has f.misses
+file_misses IsFlaw refusal_of name Output s t f has = everywhere s.files _ (ap (λ (z : DeskState). z.misses) f.1.after)
+file_misses IsFlaw refusal_of name (Tree fault) s t f has = everywhere s.files _ (ap (λ (z : DeskState). z.misses) f.1.after)
 
 numbers_misses : (cause : Option Refusal) (refusal : Refusal) (s t : DeskState) → RefusesNumbers cause refusal s t → Misses_stay s t
 numbers_misses cause refusal s t f = everywhere s.files _ (ap (λ (z : DeskState). z.misses) (numbers_same cause refusal s t f))
 
 start_misses : (task : Task) (refusal : Refusal) (s t : DeskState) → RefusesStart task refusal s t → HasInput s task → Misses_stay s t
-start_misses (Basins settings) refusal s t f has = file_misses _ settings.volume refusal s t f has
-start_misses (Segment settings) refusal s t f has = file_misses _ settings.volume refusal s t f has
+start_misses (Basins settings) refusal s t f has = file_misses IsVolumeFlaw basins_refusal settings.volume refusal s t f has
+start_misses (Segment settings) refusal s t f has = file_misses IsCutFlaw (segment_refusal settings.chunk) settings.volume refusal s t f has
 start_misses (Make settings) refusal s t f has = numbers_misses _ refusal s t f
 start_misses (Trial settings) refusal s t f has = numbers_misses _ refusal s t f
-start_misses (Show tree) refusal s t f has = file_misses _ tree refusal s t f has
+start_misses (Show tree) refusal s t f has = file_misses IsTreeFlaw show_refusal tree refusal s t f has
 
 run_misses : (refusal : Refusal) (words : List (List ℕ)) (s t : DeskState) → RefusesRun words refusal s t
     → ((task : Task) → Spells words task → HasInput s task) → Misses_stay s t
@@ -437,9 +437,9 @@ quiet_told refusal words s m t status is f told _ apart = quiet_judged refusal w
 
 pub exactly_told : (refusal : Refusal) (words : List (List ℕ)) (s t : DeskState) (result : ℕ) → result ≡ status_of refusal → OneTask
     → RefusesRun words refusal s t → (status : ℕ) → (n : NamesAFlawedInput words status s)
-    → (result ≡ status) ⊎ ComesFirst n.task result
+    → (result ≡ status) ⊎ MayHideFlaw n.task result
 exactly_told refusal words s t result is one f status n =
-    subst (λ (k : ℕ). (k ≡ status) ⊎ ComesFirst n.task k) (sym is) (exactly_judged refusal words s t one f status n)
+    subst (λ (k : ℕ). (k ≡ status) ⊎ MayHideFlaw n.task k) (sym is) (exactly_judged refusal words s t one f status n)
 
 pub complete_told : (refusal : Refusal) (words : List (List ℕ)) (s m t : DeskState) (result : ℕ) → result ≡ status_of refusal → OneTask
     → RefusesRun words refusal s m → Told refusal m t → NamesAGoodInput words s → ¬ (Rose s.input_faults t.input_faults)

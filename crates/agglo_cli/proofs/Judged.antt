@@ -10,7 +10,7 @@ use Rattle.seg_io.specs.Desk.{DeskState}
 use Rattle.refusals.specs.declared.refusal.Refusal.{Refusal}
 use Rattle.refusals.specs.declared.refusal.Refusal.TheVariants.{Memory, Words, Volume, Leaves, Input, Output, Tree}
 use Rattle.agglo_cli.specs.Answers.{IsVolumeFile, IsTreeFile, ReadsCutVolume, Finds}
-use Rattle.agglo_cli.specs.Flaws.{volume_flaw_refusal, tree_flaw_refusal, leaves_refusal, basins_refusal, segment_refusal, show_refusal, RefusesInput, RefusesNumbers, RefusesStart, IsJudgedFile, IsJudged, ComesFirst}
+use Rattle.agglo_cli.specs.Flaws.{IsVolumeFlaw, IsCutFlaw, IsTreeFlaw, volume_flaw_refusal, tree_flaw_refusal, leaves_refusal, basins_refusal, segment_refusal, show_refusal, RefusesInput, RefusesNumbers, RefusesStart, IsJudgedFile, IsJudged, MayHideFlaw}
 use Rattle.agglo_cli.specs.Reading.{file_of}
 use Rattle.agglo_cli.specs.Writing.{Answer}
 use Rattle.agglo_cli.proofs.ReadFile.{if_some}
@@ -58,16 +58,17 @@ TellsFlaw Input = ⊥
 TellsFlaw Output = ⊥
 TellsFlaw (Tree fault) = Unit {0}
 
-of_file : (refusal_of : List ℕ → Option Refusal) (name : List ℕ) (refusal : Refusal) (cause : Option Refusal) (s t : DeskState)
-    → TellsFlaw refusal → RefusesInput refusal_of name refusal s t → IsJudgedFile refusal_of name cause s → cause ≡ Some refusal
+of_file : (IsFlaw : Refusal → Type 0) (refusal_of : List ℕ → Option Refusal) (name : List ℕ) (refusal : Refusal) (cause : Option Refusal)
+    (s t : DeskState) → TellsFlaw refusal → RefusesInput IsFlaw refusal_of name refusal s t → IsJudgedFile refusal_of name cause s
+    → cause ≡ Some refusal
 unfolding TellsFlaw
-of_file refusal_of name Memory cause s t flaw f j = absurd flaw
-of_file refusal_of name Words cause s t flaw f j = absurd flaw
-of_file refusal_of name (Volume fault) cause s t flaw f j = of_told refusal_of name cause _ s f.bytes j
-of_file refusal_of name (Leaves leaves) cause s t flaw f j = of_told refusal_of name cause _ s f.bytes j
-of_file refusal_of name Input cause s t flaw f j = absurd flaw
-of_file refusal_of name Output cause s t flaw f j = absurd flaw
-of_file refusal_of name (Tree fault) cause s t flaw f j = of_told refusal_of name cause _ s f.bytes j
+of_file IsFlaw refusal_of name Memory cause s t flaw f j = absurd flaw
+of_file IsFlaw refusal_of name Words cause s t flaw f j = absurd flaw
+of_file IsFlaw refusal_of name (Volume fault) cause s t flaw f j = of_told refusal_of name cause _ s f.1.bytes j
+of_file IsFlaw refusal_of name (Leaves leaves) cause s t flaw f j = of_told refusal_of name cause _ s f.1.bytes j
+of_file IsFlaw refusal_of name Input cause s t flaw f j = absurd flaw
+of_file IsFlaw refusal_of name Output cause s t flaw f j = absurd flaw
+of_file IsFlaw refusal_of name (Tree fault) cause s t flaw f j = of_told refusal_of name cause _ s f.1.bytes j
 
 of_numbers : (told cause : Option Refusal) (refusal : Refusal) (s t : DeskState) → TellsFlaw refusal → RefusesNumbers told refusal s t
     → told ≡ cause → cause ≡ Some refusal
@@ -82,22 +83,22 @@ of_numbers told cause (Tree fault) s t flaw f j = absurd f
 
 pub one_cause : (task : Task) (refusal : Refusal) (cause : Option Refusal) (s t : DeskState) → TellsFlaw refusal
     → RefusesStart task refusal s t → IsJudged task cause s → cause ≡ Some refusal
-one_cause (Basins settings) refusal cause s t flaw f j = of_file basins_refusal settings.volume refusal cause s t flaw f j
-one_cause (Segment settings) refusal cause s t flaw f j = of_file (segment_refusal settings.chunk) settings.volume refusal cause s t flaw f j
+one_cause (Basins settings) refusal cause s t flaw f j = of_file IsVolumeFlaw basins_refusal settings.volume refusal cause s t flaw f j
+one_cause (Segment settings) refusal cause s t flaw f j = of_file IsCutFlaw (segment_refusal settings.chunk) settings.volume refusal cause s t flaw f j
 one_cause (Make settings) refusal cause s t flaw f j = of_numbers None cause refusal s t flaw f j
 one_cause (Trial settings) refusal cause s t flaw f j = of_numbers (leaves_refusal settings.axes settings.chunk) cause refusal s t flaw f j
-one_cause (Show tree) refusal cause s t flaw f j = of_file show_refusal tree refusal cause s t flaw f j
+one_cause (Show tree) refusal cause s t flaw f j = of_file IsTreeFlaw show_refusal tree refusal cause s t flaw f j
 
 -- ---- what may come in the place of a flaw
 
-pub memory_first : (task : Task) → ComesFirst task 1
+pub memory_first : (task : Task) → MayHideFlaw task 1
 memory_first (Basins settings) = inl refl
 memory_first (Segment settings) = inl refl
 memory_first (Make settings) = refl
 memory_first (Trial settings) = refl
 memory_first (Show tree) = inl refl
 
-pub fault_first : (task : Task) (s t : DeskState) → RefusesStart task Input s t → ComesFirst task 5
+pub fault_first : (task : Task) (s t : DeskState) → RefusesStart task Input s t → MayHideFlaw task 5
 fault_first (Basins settings) s t f = inr refl
 fault_first (Segment settings) s t f = inr refl
 fault_first (Make settings) s t f = absurd f

@@ -6,3 +6,5 @@ mod ShownLines
 mod Segmented
 mod Judged
 mod Explained
+mod Endings
+mod Stopped

@@ -13,7 +13,7 @@ use Rattle.refusals.specs.declared.refusal.Refusal.TheVariants.{Volume}
 use Rattle.refusals.specs.Refusal.{volume_refusal}
 use Rattle.agglo_cli.specs.Reading.{OnlyInputChanges, OpensFile, ReadsFile, FailsToReadFile}
 use Rattle.agglo_cli.specs.Answers.{IsVolumeFile}
-use Rattle.agglo_cli.specs.Flaws.{volume_flaw_refusal, basins_refusal, RefusesInput}
+use Rattle.agglo_cli.specs.Flaws.{IsVolumeFlaw, volume_flaw_refusal, basins_refusal, RefusesInput}
 
 -- what holds of the input that was opened holds of the file
 of_file : (name : List ℕ) (files : Option (List File)) (input : Option (List ℕ)) (P : List ℕ → Type 0)
@@ -127,12 +127,15 @@ told_flaw None fault e = cc e
 told_flaw (Some flaw) fault e = ap (option_map Volume) e
 
 bad_volume : (name : List ℕ) (fault : VolumeFault) (s t u : DeskState) → OpensInput name s t → FindsBadVolume fault t u
-    → OpensFile name (λ bytes. basins_refusal bytes ≡ Some (Volume fault)) s u
-bad_volume name fault s t u o f = opens_file name _ s t u _ o
-    (if_some t.input _ _ (λ bytes e. told_flaw (volume_flaw bytes) fault e) f.flaw) f.after
+    → RefusesInput IsVolumeFlaw basins_refusal name (Volume fault) s u
+bad_volume name fault s t u o f = (
+  tt,
+  opens_file name _ s t u _ o
+      (if_some t.input _ _ (λ bytes e. told_flaw (volume_flaw bytes) fault e) f.flaw) f.after,
+)
 
 pub no_volume : (name : List ℕ) (fault : VolumeFault) (s t u : DeskState) → OpensInput name s t → FailsToReadVolume fault t u
-    → RefusesInput basins_refusal name (volume_refusal fault) s u
+    → RefusesInput IsVolumeFlaw basins_refusal name (volume_refusal fault) s u
 no_volume name Read s t u o f = fails_to_read name s t u o f
 no_volume name Memory s t u o f = opens_file name _ s t u _ o (any_bytes t.input) f.after
 no_volume name (ShortHeader got) s t u o f = bad_volume name _ s t u o f

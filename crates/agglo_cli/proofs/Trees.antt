@@ -10,8 +10,8 @@ use Rattle.merge_tree.specs.TreeReading.{ReadsTree, FindsBadTree, FailsToReadTre
 use Rattle.refusals.specs.declared.refusal.Refusal.TheVariants.{Tree}
 use Rattle.refusals.specs.Refusal.{tree_refusal}
 use Rattle.agglo_cli.specs.Answers.{IsTreeFile}
-use Rattle.agglo_cli.specs.Flaws.{tree_flaw_refusal, show_refusal, RefusesInput}
-use Rattle.agglo_cli.specs.Reading.{OpensFile, ReadsFile}
+use Rattle.agglo_cli.specs.Flaws.{IsTreeFlaw, tree_flaw_refusal, show_refusal, RefusesInput}
+use Rattle.agglo_cli.specs.Reading.{ReadsFile}
 use Rattle.agglo_cli.proofs.ReadFile.{if_some, if_both, any_bytes, opens_file, reads_file, fails_to_read}
 
 pub reads_tree : (name : List ℕ) (tree : MergeTree) (s t u : DeskState) → OpensInput name s t → ReadsTree tree t u
@@ -24,12 +24,15 @@ told_flaw None fault e = cc e
 told_flaw (Some flaw) fault e = ap (option_map Tree) e
 
 bad_tree : (name : List ℕ) (fault : TreeFault) (s t u : DeskState) → OpensInput name s t → FindsBadTree fault t u
-    → OpensFile name (λ bytes. show_refusal bytes ≡ Some (Tree fault)) s u
-bad_tree name fault s t u o f = opens_file name _ s t u _ o
-    (if_some t.input _ _ (λ bytes e. told_flaw (tree_flaw bytes) fault e) f.flaw) f.after
+    → RefusesInput IsTreeFlaw show_refusal name (Tree fault) s u
+bad_tree name fault s t u o f = (
+  tt,
+  opens_file name _ s t u _ o
+      (if_some t.input _ _ (λ bytes e. told_flaw (tree_flaw bytes) fault e) f.flaw) f.after,
+)
 
 pub no_tree : (name : List ℕ) (fault : TreeFault) (s t u : DeskState) → OpensInput name s t → FailsToReadTree fault t u
-    → RefusesInput show_refusal name (tree_refusal fault) s u
+    → RefusesInput IsTreeFlaw show_refusal name (tree_refusal fault) s u
 no_tree name Read s t u o f = fails_to_read name s t u o f
 no_tree name Memory s t u o f = opens_file name _ s t u _ o (any_bytes t.input) f.after
 no_tree name (ShortHeader got) s t u o f = bad_tree name _ s t u o f

@@ -1,5 +1,5 @@
 -- Why a task is refused before anything is written.
-use Rattle.std.specs.Prelude.{◌≡◌, ℕ, ◌⊎◌, List, Option, Some, None}
+use Rattle.std.specs.Prelude.{◌≡◌, ℕ, ◌⊎◌, List, [], ◌∷◌, Contains, Option, Some, None}
 use Rattle.std.specs.Option.{option_map, option_and_then, option_or}
 use Rattle.agglo_model.specs.Axes.{Axes}
 use Rattle.agglo_model.specs.Cutting.{SizesFlaw, ChunkZero, TooManyLeaves, sizes_flaw}
@@ -44,15 +44,27 @@ segment_refusal chunk bytes =
 abbrev pub show_refusal : List ℕ → Option Refusal
 show_refusal bytes = tree_flaw_refusal (tree_flaw bytes)
 
--- The input of this name was not read, for this cause. What is wrong with bytes is told by `refusal_of`.
-abbrev pub RefusesInput : (List ℕ → Option Refusal) → List ℕ → Refusal → DeskState → DeskState → Type 0
-RefusesInput refusal_of name Memory old new = OpensFile name (λ _. Unit {0}) old new
-RefusesInput refusal_of name Words old new = ⊥
-RefusesInput refusal_of name (Volume fault) old new = OpensFile name (λ bytes. refusal_of bytes ≡ Some (Volume fault)) old new
-RefusesInput refusal_of name (Leaves leaves) old new = OpensFile name (λ bytes. refusal_of bytes ≡ Some (Leaves leaves)) old new
-RefusesInput refusal_of name Input old new = FailsToReadFile name old new
-RefusesInput refusal_of name Output old new = ⊥
-RefusesInput refusal_of name (Tree fault) old new = OpensFile name (λ bytes. refusal_of bytes ≡ Some (Tree fault)) old new
+-- the causes for which bytes may be no volume, no volume that can be cut, and no merge tree
+abbrev pub IsVolumeFlaw : Refusal → Type 0
+IsVolumeFlaw (Volume fault) = Unit {0}
+IsVolumeFlaw refusal = ⊥
+
+abbrev pub IsCutFlaw : Refusal → Type 0
+IsCutFlaw (Volume fault) = Unit {0}
+IsCutFlaw (Leaves leaves) = Unit {0}
+IsCutFlaw refusal = ⊥
+
+abbrev pub IsTreeFlaw : Refusal → Type 0
+IsTreeFlaw (Tree fault) = Unit {0}
+IsTreeFlaw refusal = ⊥
+
+-- The input of this name was not read, for this cause. Bytes are refused for a flaw that such a file may have,
+-- and it is the one that `refusal_of` tells of them.
+abbrev pub RefusesInput : (Refusal → Type 0) → (List ℕ → Option Refusal) → List ℕ → Refusal → DeskState → DeskState → Type 0
+RefusesInput IsFlaw refusal_of name Memory old new = OpensFile name (λ _. Unit {0}) old new
+RefusesInput IsFlaw refusal_of name Input old new = FailsToReadFile name old new
+RefusesInput IsFlaw refusal_of name refusal old new =
+    IsFlaw refusal × OpensFile name (λ bytes. refusal_of bytes ≡ Some refusal) old new
 
 -- Nothing is read, and the run ended for this cause: want of memory, or too many leaves as `cause` says.
 abbrev pub RefusesNumbers : Option Refusal → Refusal → DeskState → DeskState → Type 0
@@ -66,11 +78,11 @@ RefusesNumbers cause (Tree fault) old new = ⊥
 
 -- The task ended for this cause before its answer was known.
 abbrev pub RefusesStart : Task → Refusal → DeskState → DeskState → Type 0
-RefusesStart (Basins settings) refusal old new = RefusesInput basins_refusal settings.volume refusal old new
-RefusesStart (Segment settings) refusal old new = RefusesInput (segment_refusal settings.chunk) settings.volume refusal old new
+RefusesStart (Basins settings) refusal old new = RefusesInput IsVolumeFlaw basins_refusal settings.volume refusal old new
+RefusesStart (Segment settings) refusal old new = RefusesInput IsCutFlaw (segment_refusal settings.chunk) settings.volume refusal old new
 RefusesStart (Make settings) refusal old new = RefusesNumbers None refusal old new
 RefusesStart (Trial settings) refusal old new = RefusesNumbers (leaves_refusal settings.axes settings.chunk) refusal old new
-RefusesStart (Show tree) refusal old new = RefusesInput show_refusal tree refusal old new
+RefusesStart (Show tree) refusal old new = RefusesInput IsTreeFlaw show_refusal tree refusal old new
 
 -- ---- what a task deserves
 
@@ -98,9 +110,21 @@ HasInput s (Trial settings) = Unit {0}
 HasInput s (Show tree) = HasFile s tree
 
 -- The status may come in the place of that of a flaw: want of memory, and where a file is read, a fault of the input.
-abbrev pub ComesFirst : Task → ℕ → Type 0
-ComesFirst (Basins settings) status = (status ≡ 1) ⊎ (status ≡ 5)
-ComesFirst (Segment settings) status = (status ≡ 1) ⊎ (status ≡ 5)
-ComesFirst (Make settings) status = status ≡ 1
-ComesFirst (Trial settings) status = status ≡ 1
-ComesFirst (Show tree) status = (status ≡ 1) ⊎ (status ≡ 5)
+abbrev pub MayHideFlaw : Task → ℕ → Type 0
+MayHideFlaw (Basins settings) status = (status ≡ 1) ⊎ (status ≡ 5)
+MayHideFlaw (Segment settings) status = (status ≡ 1) ⊎ (status ≡ 5)
+MayHideFlaw (Make settings) status = status ≡ 1
+MayHideFlaw (Trial settings) status = status ≡ 1
+MayHideFlaw (Show tree) status = (status ≡ 1) ⊎ (status ≡ 5)
+
+-- The statuses that a task may end with, whatever the desk tells: 3 where it reads a volume, 4 where it cuts one,
+-- 5 where it reads a file, and 7 where that is a merge tree.
+abbrev pub statuses_of : Task → List ℕ
+statuses_of (Basins settings) = 0 ∷ 1 ∷ 3 ∷ 5 ∷ 6 ∷ []
+statuses_of (Segment settings) = 0 ∷ 1 ∷ 3 ∷ 4 ∷ 5 ∷ 6 ∷ []
+statuses_of (Make settings) = 0 ∷ 1 ∷ 6 ∷ []
+statuses_of (Trial settings) = 0 ∷ 1 ∷ 4 ∷ 6 ∷ []
+statuses_of (Show tree) = 0 ∷ 1 ∷ 5 ∷ 6 ∷ 7 ∷ []
+
+abbrev pub MayEndWith : Task → ℕ → Type 0
+MayEndWith task status = Contains (statuses_of task) status

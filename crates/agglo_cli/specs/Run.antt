@@ -11,7 +11,7 @@ use Rattle.agglo_cli.specs.Answers.{Finds}
 use Rattle.agglo_cli.specs.Flaws.{RefusesStart, IsJudged}
 
 -- the three ports that can be opened are not open
-pub record IsFresh (s : DeskState) : Type 0 where
+pub record HasNoOutput (s : DeskState) : Type 0 where
   pub labels : CanOpen Labels s
   pub tree : CanOpen TreePort s
   pub volume : CanOpen VolumePort s

@@ -1,10 +1,11 @@
-ghost use Rattle.std.specs.Prelude.{◌≡◌, ◌≤◌, [], ◌∷◌, ◌++◌, OnOk, OnErr, IfOk, IsNone, length, string_bytes};
-ghost use Rattle.agglo_cli.specs.FileDesk.{opened_ports};
+ghost use Rattle.std.specs.Prelude.{◌≡◌, ◌≤◌, [], ◌∷◌, ◌++◌, OnOk, OnErr, IfOk, length};
+ghost use Rattle.agglo_cli.specs.FileDesk.{opened_ports, new_desk};
 
 use seg_io::{Desk, Failed, Port};
 use std::alloc::Global;
 use std::io;
 use std::io::{Read, Write};
+use std::marker::Model;
 use std::rt::Files;
 use std::str::from_utf8;
 
@@ -39,12 +40,35 @@ pub struct FileDesk<R: Files> {
     trouble_faults: u64,
 }
 
+impl<R: Files> Model for FileDesk<R> {
+    ghost use Rattle.std.specs.Prelude.{None, is_some};
+    ghost use Rattle.seg_io.specs.Desk.{DeskState};
+
+    ghost Value = { DeskState };
+
+    ghost use Rattle.agglo_cli.specs.FileDesk.{opened_ports};
+
+    ghost view = { λ desk. record {
+      input_faults = desk.input_faults;
+      output_faults = desk.output_faults;
+      trouble_faults = desk.trouble_faults;
+      files = None;
+      misses = 0;
+      has_input = is_some desk.input;
+      input = None;
+      labels = None;
+      tree = None;
+      volume = None;
+      note = None;
+      trouble = None;
+      opened = opened_ports desk.outputs.opened.items;
+    } };
+}
+
 impl<R: Files> FileDesk<R> {
     /// A desk with no input, no port opened but the two that always are, and no fault.
     pub fn new(rt: R, alloc: Global) -> FileDesk<R>
-        ensures opened { opened_ports result.outputs.opened.items ≡ [] }
-        ensures input { IsNone result.input }
-        ensures faults { (result.input_faults ≡ 0) × (result.output_faults ≡ 0) × (result.trouble_faults ≡ 0) }
+        ensures { result ≡ new_desk }
     {
         let outputs = Outputs {
             labels: None,
@@ -130,24 +154,7 @@ fn write_error(rt: &impl Eprint, bytes: &[u8]) -> io::Result<usize>
 }
 
 impl<R: Files + Print + Eprint> Desk for FileDesk<R> {
-    ghost use Rattle.std.specs.Prelude.{None, is_some};
-    ghost use Rattle.agglo_cli.specs.FileDesk.{opened_ports};
-
-    ghost state = { λ desk. record {
-      input_faults = desk.input_faults;
-      output_faults = desk.output_faults;
-      trouble_faults = desk.trouble_faults;
-      files = None;
-      misses = 0;
-      has_input = is_some desk.input;
-      input = None;
-      labels = None;
-      tree = None;
-      volume = None;
-      note = None;
-      trouble = None;
-      opened = opened_ports desk.outputs.opened.items;
-    } };
+    ghost state = { λ desk. desk };
 
     fn open_in(&mut self, name: &str) -> Result<(), Failed> {
         match std::fs::open(&self.rt, name) {

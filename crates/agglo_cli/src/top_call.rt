@@ -4,8 +4,8 @@ ghost use Rattle.command_words.specs.Jobs.{task_of};
 ghost use Rattle.command_words.specs.Texts.{texts};
 ghost use Rattle.command_words.specs.Words.{Task, Basins, Segment, Make, Trial, Show, SegmentSettings, MakeSettings, TrialSettings, Spells, AreNoSettings, MayBeSettings, AreSomeSizes};
 ghost use Rattle.refusals.specs.Refusal.{status_of};
-ghost use Rattle.agglo_cli.specs.Flaws.{HasInput, ComesFirst};
-ghost use Rattle.agglo_cli.specs.Run.{IsFresh, FinishesTask, RefusesTask, RefusesRun, Told, Finishes, Refuses, NamesAFlawedInput, NamesAGoodInput, WritesNothing, IsStatus};
+ghost use Rattle.agglo_cli.specs.Flaws.{HasInput, MayHideFlaw, MayEndWith};
+ghost use Rattle.agglo_cli.specs.Run.{HasNoOutput, FinishesTask, RefusesTask, RefusesRun, Told, Finishes, Refuses, NamesAFlawedInput, NamesAGoodInput, WritesNothing, IsStatus};
 ghost use Rattle.agglo_cli.specs.Headline.{IsAgglomerated, IsMade, IsTried};
 
 use crate::input::{cut, read_cut_volume, read_tree_file, read_volume_file};
@@ -36,7 +36,7 @@ pub fn agglo<R: Threads + Sync, D: Desk, G: Gate>(
     desk: &mut D,
     gate: &G,
 ) -> u8
-    requires { IsFresh (D.state desk.old) }
+    requires { HasNoOutput (D.state desk.old) }
     ensures status { IsStatus result }
 
     // One whole volume was read, and exactly the two files of greedy agglomeration of its basins were written,
@@ -58,6 +58,7 @@ pub fn agglo<R: Threads + Sync, D: Desk, G: Gate>(
     // Every refusal has its cause, and its line was printed. Want of memory is free, but not for words that are
     // refused at once: there is none, or the first is no command, or another is bare.
     ensures refused { result ≢ 0 → Refuses (texts words.now) result (D.state desk.old) (D.state desk.new) }
+    ensures kinds { (task : Task) → Spells (texts words.now) task → MayEndWith task result }
     ensures no_settings { result ≡ 2 → AreNoSettings (texts words.now) }
     ensures words { AreNoSettings (texts words.now) → (result ≡ 2) ⊎ ((result ≡ 1) × MayBeSettings (texts words.now)) }
     ensures at_once { ¬ (MayBeSettings (texts words.now)) → result ≡ 2 }
@@ -67,7 +68,7 @@ pub fn agglo<R: Threads + Sync, D: Desk, G: Gate>(
     // A flaw that is told, of a file by the desk and of leaves by the words, is found, but for want of memory and, in
     // a file, faults of the input.
     ensures exactly { (status : ℕ) → (named : NamesAFlawedInput (texts words.now) status (D.state desk.old))
-        → (result ≡ status) ⊎ ComesFirst named.task result }
+        → (result ≡ status) ⊎ MayHideFlaw named.task result }
 
     // With settings, an input that has no flaw, and no fault, only want of memory can come.
     ensures complete { NamesAGoodInput (texts words.now) (D.state desk.old)
@@ -106,7 +107,7 @@ fn run<R: Threads + Sync, D: Desk, G: Gate>(
     desk: &mut D,
     gate: &G,
 ) -> Result<(), Refusal>
-    requires { IsFresh (D.state desk.old) }
+    requires { HasNoOutput (D.state desk.old) }
     ensures { MatchResult result
         (λ _. Finishes (texts words.now) (D.state desk.old) (D.state desk.new))
         (λ refusal. RefusesRun (texts words.now) refusal (D.state desk.old) (D.state desk.new)) }
@@ -148,7 +149,7 @@ fn run_job<R: Threads + Sync, D: Desk, G: Gate>(
     job: &Job,
     gate: &G,
 ) -> Result<(), Refusal>
-    requires fresh { IsFresh (D.state desk.old) }
+    requires fresh { HasNoOutput (D.state desk.old) }
     requires sizes { (settings : SegmentSettings) → task_of job.now ≡ Segment settings → AreSomeSizes settings.chunk }
     requires trial_sizes { (settings : TrialSettings) → task_of job.now ≡ Trial settings → AreSomeSizes settings.chunk }
     ensures { MatchResult result
@@ -205,7 +206,7 @@ fn run_basins<D: Desk>(
     labels: &str,
     low: u8,
 ) -> Result<(), Refusal>
-    requires { IsFresh (D.state desk.old) }
+    requires { HasNoOutput (D.state desk.old) }
     ensures { MatchResult result
         (λ _. FinishesTask (Basins (record { volume = volume.now; labels = labels.now; low = low })) (D.state desk.old) (D.state desk.new))
         (λ refusal. RefusesTask (Basins (record { volume = volume.now; labels = labels.now; low = low })) refusal (D.state desk.old) (D.state desk.new)) }
@@ -213,10 +214,7 @@ fn run_basins<D: Desk>(
     let volume = read_volume_file(alloc, desk, volume)?;
     let basins = whole_basins(alloc, &volume, low)?;
     let note = basins_note(alloc, &basins)?;
-    match write_basins(desk, labels, &basins, note.as_str()) {
-        Ok(()) => Ok(()),
-        Err(_) => Err(Refusal::Output),
-    }
+    write_basins(desk, labels, &basins, note.as_str()).map_err(|_| Refusal::Output)
 }
 
 /// Reads the volume, segments it, and writes the labels, the merge tree and the report.
@@ -229,7 +227,7 @@ fn run_segment<R: Threads + Sync, D: Desk, G: Gate>(
     plan: &Plan,
     gate: &G,
 ) -> Result<(), Refusal>
-    requires fresh { IsFresh (D.state desk.old) }
+    requires fresh { HasNoOutput (D.state desk.old) }
     requires sizes { AreSomeSizes plan.now.chunk }
     ensures { let task = Segment (record {
       volume = volume.now;
@@ -251,10 +249,7 @@ fn run_segment<R: Threads + Sync, D: Desk, G: Gate>(
     let report = report_text(alloc, &answer)?;
     let Answer { labels, merges, .. } = answer;
     let tree = Tree::of(read.volume.dims(), plan.settings.threshold, merges);
-    match write_segmentation(desk, names, &labels, &tree, report.as_str()) {
-        Ok(()) => Ok(()),
-        Err(_) => Err(Refusal::Output),
-    }
+    write_segmentation(desk, names, &labels, &tree, report.as_str()).map_err(|_| Refusal::Output)
 }
 
 /// Generates the volume of these axes from its start number, and writes its file.
@@ -265,7 +260,7 @@ fn run_make<D: Desk>(
     start: u32,
     dims: &Dims,
 ) -> Result<(), Refusal>
-    requires { IsFresh (D.state desk.old) }
+    requires { HasNoOutput (D.state desk.old) }
     ensures { let task = Make (record { volume = name.now; start = start; axes = dims.now }) in
         MatchResult result
         (λ _. FinishesTask task (D.state desk.old) (D.state desk.new))
@@ -273,10 +268,7 @@ fn run_make<D: Desk>(
 {
     let volume = generate(alloc, start, dims)?;
     let note = make_note(alloc, dims)?;
-    match write_made(desk, name, &volume, note.as_str()) {
-        Ok(()) => Ok(()),
-        Err(_) => Err(Refusal::Output),
-    }
+    write_made(desk, name, &volume, note.as_str()).map_err(|_| Refusal::Output)
 }
 
 /// Generates the volume of these axes from its start number, segments it, and prints the report.
@@ -306,10 +298,7 @@ fn run_trial<R: Threads + Sync, D: Desk, G: Gate>(
     let volume = generate(alloc, start, dims)?;
     let answer = segment(rt, alloc, &volume, &cutting, &plan.settings, gate)?;
     let report = report_text(alloc, &answer)?;
-    match put_all(desk, Port::Note, report.as_bytes()) {
-        Ok(()) => Ok(()),
-        Err(_) => Err(Refusal::Output),
-    }
+    put_all(desk, Port::Note, report.as_bytes()).map_err(|_| Refusal::Output)
 }
 
 /// Reads the merge tree, and shows it.
@@ -320,8 +309,5 @@ fn run_show<D: Desk>(alloc: Global, desk: &mut D, tree: &str) -> Result<(), Refu
 {
     let tree = read_tree_file(alloc, desk, tree)?;
     let note = tree_note(alloc, &tree)?;
-    match put_all(desk, Port::Note, note.as_bytes()) {
-        Ok(()) => Ok(()),
-        Err(_) => Err(Refusal::Output),
-    }
+    put_all(desk, Port::Note, note.as_bytes()).map_err(|_| Refusal::Output)
 }

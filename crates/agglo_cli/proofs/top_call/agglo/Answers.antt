@@ -1,4 +1,5 @@
 use Rattle.agglo_cli.proofs.Explained.{is_segmented, is_made, is_tried, done_not_flawed, no_settings_told, words_told, glance_told, spelled_may_be, input_told, output_told, quiet_told, exactly_told, complete_told, misses_judged}
+use Rattle.agglo_cli.proofs.Endings.{may_be_done, kinds_told}
 use Rattle.agglo_cli.proofs.top_call.agglo.Goals as goal
 
 pub returns-in-Ok-clause-segmented : goal.returns-in-Ok-clause-segmented
@@ -18,6 +19,12 @@ returns-in-Ok-clause-at_once g c = λ bad. absurd (bad (spelled_may_be _ _ c.in-
 
 pub returns-in-Ok-clause-exactly : goal.returns-in-Ok-clause-exactly
 returns-in-Ok-clause-exactly g c = λ status n. done_not_flawed _ _ _ _ c.one_task.ensures c.in-Ok.ensures status n
+
+pub returns-in-Ok-clause-kinds : goal.returns-in-Ok-clause-kinds
+returns-in-Ok-clause-kinds g c = λ task spelled. may_be_done task
+
+pub returns-in-Err-clause-kinds : goal.returns-in-Err-clause-kinds
+returns-in-Err-clause-kinds g c = kinds_told c.in-Err.refusal _ _ _ _ c.refuse.ensures.status c.one_task.ensures c.in-Err.ensures
 
 pub returns-in-Err-clause-no_settings : goal.returns-in-Err-clause-no_settings
 returns-in-Err-clause-no_settings g c = no_settings_told c.in-Err.refusal _ _ _ _ c.refuse.ensures.status c.in-Err.ensures
