@@ -1,7 +1,8 @@
 //! The graph of a node that has children, made of what these passed on: their names and contacts, and the
 //! contacts across the faces between them.
 //!
-//! It stands on `region_graph`, whose lists it gathers and sums up. The run over all nodes stands on it.
+//! It stands on `region_graph`, whose lists it gathers and sums up, on `chunk_tree` for the cells of children, and
+//! on lemmas of `work_laws`. The run over all nodes stands on it.
 #![tactic(auto)]
 
 mod across;

@@ -24,7 +24,8 @@ pub record ClimbsTo (g : Grid) (low v w : ℕ) : Type 0 where
   pub far_best : IsBest g low w next
   pub other : next ≢ edge
 
-abbrev pub IsTurn : Grid → ℕ → ℕ → Turn → Type 0
-IsTurn g low v Stays = HasNoBest g low v
-IsTurn g low v (Ends name) = EndsWith g low v name
-IsTurn g low v (Climbs w) = ClimbsTo g low v w
+-- what the ascent does at voxel v: it stays where there is no best edge, ends in a basin, or climbs to another voxel
+abbrev pub IsTurnAt : Grid → ℕ → ℕ → Turn → Type 0
+IsTurnAt g low v Stays = HasNoBest g low v
+IsTurnAt g low v (Ends name) = EndsWith g low v name
+IsTurnAt g low v (Climbs w) = ClimbsTo g low v w

@@ -4,7 +4,7 @@ ghost use Rattle.agglo_model.specs.Basins.{label_of};
 ghost use Rattle.agglo_model.specs.Grid.{IsWhole};
 ghost use Rattle.edge_order.specs.Steps.{IsBestStep, LeadsTo};
 ghost use Rattle.steepest_ascent.specs.Progress.{AreRightSoFar, GainsRightLabels, IsLabelOf};
-ghost use Rattle.steepest_ascent.specs.Turns.{IsTurn};
+ghost use Rattle.steepest_ascent.specs.Turns.{IsTurnAt};
 
 use agglo_model::Memory;
 use edge_order::{Step, best_steps};
@@ -66,7 +66,7 @@ impl<'a> Ascent<'a> {
     /// How the ascent goes on from voxel `v`.
     fn turn(&self, v: u32) -> Turn
         requires { v < voxel_count self.now.grid.axes }
-        ensures turn { IsTurn self.now.grid self.now.low v result }
+        ensures turn { IsTurnAt self.now.grid self.now.low v result }
         ensures whole { IsWhole self.now.grid }
     {
         let step = self.steps[v as usize];

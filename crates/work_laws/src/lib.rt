@@ -1,7 +1,8 @@
 //! Why each node starts from the right region graph. Each function has no body: its contract is the law,
 //! over the definitions alone.
 //!
-//! It stands on `agglo_model`, whose laws say why work on chunks gives the answer of the whole volume.
+//! It stands on `agglo_model`, whose laws say why work on chunks gives the answer of the whole volume. What joins
+//! the graphs of children and the run over all nodes stand on it.
 #![tactic(auto)]
 
 ghost use Rattle.agglo_model.specs.JoiningLaws.{JoinedStart, LeavesStart};
