@@ -1,4 +1,5 @@
 ghost use Rattle.std.specs.Prelude.{◌≡◌, ◌∷◌, [], MatchResult, length};
+ghost use Rattle.agglo_model.specs.Generated.{generated_volume};
 ghost use Rattle.agglo_model.specs.LabelFile.{label_file};
 ghost use Rattle.agglo_model.specs.TreeFile.{tree_bytes};
 ghost use Rattle.agglo_model.specs.VolumeFile.{volume_bytes};
@@ -7,9 +8,9 @@ ghost use Rattle.seg_io.specs.declared.port.Port.TheVariants.{Labels as LabelsPo
 ghost use Rattle.agglo_cli.specs.Writing.{WritesFile, CutsFile, WritesFiles, FailsInFiles, FailsInFile};
 
 use merge_tree::{Tree, put_labels, put_tree};
-use seg_base::Labels;
+use seg_base::{Dims, Labels};
 use seg_io::{Desk, Failed, Port, put_all};
-use volume_file::{Volume, write_volume};
+use volume_file::write_generated;
 
 /// Opens the port Labels under this name and writes the label file on it.
 fn write_labels<D: Desk>(desk: &mut D, name: &str, labels: &Labels) -> Result<(), Failed>
@@ -33,15 +34,20 @@ fn write_tree<D: Desk>(desk: &mut D, name: &str, tree: &Tree) -> Result<(), Fail
     put_tree(desk, tree)
 }
 
-/// Opens the port Volume under this name and writes the volume file on it.
-fn write_volume_file<D: Desk>(desk: &mut D, name: &str, volume: &Volume) -> Result<(), Failed>
+/// Opens the port Volume under this name, and writes the file of a generated volume on it as it is made.
+fn write_volume_file<D: Desk>(
+    desk: &mut D,
+    name: &str,
+    start: u32,
+    dims: &Dims,
+) -> Result<(), Failed>
     requires { CanOpen VolumePort (D.state desk.old) }
     ensures { MatchResult result
-        (λ _. WritesFile (record { port = VolumePort; name = name.now; bytes = volume_bytes volume.now }) (D.state desk.old) (D.state desk.new))
-        (λ _. FailsInFile (record { port = VolumePort; name = name.now; bytes = volume_bytes volume.now }) (D.state desk.old) (D.state desk.new)) }
+        (λ _. WritesFile (record { port = VolumePort; name = name.now; bytes = volume_bytes (generated_volume start dims.now) }) (D.state desk.old) (D.state desk.new))
+        (λ _. FailsInFile (record { port = VolumePort; name = name.now; bytes = volume_bytes (generated_volume start dims.now) }) (D.state desk.old) (D.state desk.new)) }
 {
     desk.open_out(Port::Volume, name)?;
-    write_volume(desk, Port::Volume, volume)
+    write_generated(desk, Port::Volume, start, dims)
 }
 
 /// Writes the label file under this name, and then the note.
@@ -92,20 +98,21 @@ pub fn write_segmentation<D: Desk>(
     put_all(desk, Port::Note, note.as_bytes())
 }
 
-/// Writes the volume file under this name, and then the note.
+/// Writes the file of a generated volume under this name, and then the note.
 pub fn write_made<D: Desk>(
     desk: &mut D,
     name: &str,
-    volume: &Volume,
+    start: u32,
+    dims: &Dims,
     note: &str,
 ) -> Result<(), Failed>
     requires { CanOpen VolumePort (D.state desk.old) }
     ensures { MatchResult result
-        (λ _. WritesFiles (record { port = VolumePort; name = name.now; bytes = volume_bytes volume.now } ∷ [])
+        (λ _. WritesFiles (record { port = VolumePort; name = name.now; bytes = volume_bytes (generated_volume start dims.now) } ∷ [])
         note.now (D.state desk.old) (D.state desk.new))
-        (λ _. FailsInFiles (record { port = VolumePort; name = name.now; bytes = volume_bytes volume.now } ∷ [])
+        (λ _. FailsInFiles (record { port = VolumePort; name = name.now; bytes = volume_bytes (generated_volume start dims.now) } ∷ [])
         note.now (D.state desk.old) (D.state desk.new)) }
 {
-    write_volume_file(desk, name, volume)?;
+    write_volume_file(desk, name, start, dims)?;
     put_all(desk, Port::Note, note.as_bytes())
 }

@@ -252,7 +252,7 @@ fn run_segment<R: Threads + Sync, D: Desk, G: Gate>(
     write_segmentation(desk, names, &labels, &tree, report.as_str()).map_err(|_| Refusal::Output)
 }
 
-/// Generates the volume of these axes from its start number, and writes its file.
+/// Writes the file of the volume of these axes that is generated from its start number.
 fn run_make<D: Desk>(
     alloc: Global,
     desk: &mut D,
@@ -266,9 +266,8 @@ fn run_make<D: Desk>(
         (λ _. FinishesTask task (D.state desk.old) (D.state desk.new))
         (λ refusal. RefusesTask task refusal (D.state desk.old) (D.state desk.new)) }
 {
-    let volume = generate(alloc, start, dims)?;
     let note = make_note(alloc, dims)?;
-    write_made(desk, name, &volume, note.as_str()).map_err(|_| Refusal::Output)
+    write_made(desk, name, start, dims, note.as_str()).map_err(|_| Refusal::Output)
 }
 
 /// Generates the volume of these axes from its start number, segments it, and prints the report.

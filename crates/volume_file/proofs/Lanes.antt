@@ -9,8 +9,9 @@ use Rattle.std.proofs.lemmas.List.FromFn.{get_or-map-range_with_len, length-map-
 use Rattle.std.proofs.lemmas.Simd.{map-map}
 use Rattle.std.proofs.lemmas.List.{map-append}
 use Rattle.agglo_model.specs.Generated.{next_number, number_after, generated_byte}
-use Rattle.volume_file.specs.Generating.{lanes_from, LeapsOver}
-use Rattle.volume_file.specs.declared.generating.Leap.{Leap}
+use Rattle.volume_file.specs.Generating.{IsAt, bytes_from, lanes_from, LeapsOver}
+use Rattle.volume_file.specs.declared.sequence.Sequence.{Sequence}
+use Rattle.volume_file.specs.declared.sequence.Leap.{Leap}
 
 -- n steps after m steps
 number_later : (x m n : ℕ) → number_after (number_after x m) n ≡ number_after x (m + n)
@@ -104,8 +105,8 @@ lanes_later first e lanes later long are each = are_lanes first (e + 32) later l
 
 -- their highest bytes are those of the edges
 pub lane_bytes : (first e : ℕ) (lanes bytes : List ℕ) → lanes ≡ lanes_from first e → bytes ≡ map (λ number. number / 2 ^ 24) lanes
-    → bytes ≡ map (generated_byte first) (range_with_len e 32)
-unfolding lanes_from
+    → bytes ≡ bytes_from first e
+unfolding lanes_from bytes_from
 lane_bytes first e lanes bytes are is =
     is ∙ ap (map (λ number. number / 2 ^ 24)) are ∙ map-map (λ number. number / 2 ^ 24) (λ f. number_after first (f + 1)) (range_with_len e 32)
 
@@ -119,30 +120,37 @@ range_append a (suc n) m b meets =
     let count : suc (n + m) ≡ suc n + m = omega arith in
     ap (λ l. a ∷ l) (range_append (a + 1) n m b (omega (arith, meets))) ∙ ap (range_with_len a) count
 
-bytes_append : (first n m : ℕ) (front back : List ℕ) → front ≡ map (generated_byte first) (range_with_len 0 n)
+pub bytes_append : (first n m : ℕ) (front back : List ℕ) → front ≡ map (generated_byte first) (range_with_len 0 n)
     → back ≡ map (generated_byte first) (range_with_len n m) → front ++ back ≡ map (generated_byte first) (range_with_len 0 (n + m))
 bytes_append first n m front back before after =
     (λ i. before i ++ after i)
     ∙ sym (map-append (generated_byte first) (range_with_len 0 n) (range_with_len n m))
     ∙ ap (map (generated_byte first)) (range_append 0 n m n (omega arith))
 
--- the bytes of all lanes, after those so far
-pub lanes_appended : (first k : ℕ) (lanes bytes body : List ℕ) → lanes ≡ lanes_from first (32 * k)
-    → bytes ≡ map (λ number. number / 2 ^ 24) lanes → body ≡ map (generated_byte first) (range_with_len 0 (32 * k))
+-- 32 bytes more, after those of 32 a turn
+pub turn_appended : (first k : ℕ) (bytes body : List ℕ) → bytes ≡ bytes_from first (32 * k)
+    → body ≡ map (generated_byte first) (range_with_len 0 (32 * k))
     → body ++ bytes ≡ map (generated_byte first) (range_with_len 0 (32 * (k + 1)))
-lanes_appended first k lanes bytes body are is so_far =
+unfolding bytes_from
+turn_appended first k bytes body are so_far =
     let count : 32 * k + 32 ≡ 32 * (k + 1) = omega arith in
-    bytes_append first (32 * k) 32 body bytes so_far (lane_bytes first (32 * k) lanes bytes are is)
-    ∙ ap (λ n. map (generated_byte first) (range_with_len 0 n)) count
+    bytes_append first (32 * k) 32 body bytes so_far are ∙ ap (λ n. map (generated_byte first) (range_with_len 0 n)) count
 
--- the bytes of the first few lanes, after those of k times all lanes
-pub lanes_cut : (first count k : ℕ) (lanes bytes body : List ℕ) → k ≡ count / 32 → lanes ≡ lanes_from first (32 * k)
-    → bytes ≡ map (λ number. number / 2 ^ 24) lanes → body ≡ map (generated_byte first) (range_with_len 0 (32 * k))
+-- the rest, which is less than one turn more
+pub rest_appended : (first count k : ℕ) (bytes body : List ℕ) → k ≡ count / 32
+    → bytes ≡ bytes_from first (32 * k)
+    → body ≡ map (generated_byte first) (range_with_len 0 (32 * k))
     → body ++ take (count % 32) bytes ≡ map (generated_byte first) (range_with_len 0 count)
-lanes_cut first count k lanes bytes body turns are is so_far =
+unfolding bytes_from
+rest_appended first count k bytes body turns are so_far =
     let all : 32 * k + count % 32 ≡ count = omega (arith, turns) in
     let few : count % 32 ≤ 32 = omega arith in
     bytes_append first (32 * k) (count % 32) body (take (count % 32) bytes) so_far
-    (ap (take (count % 32)) (lane_bytes first (32 * k) lanes bytes are is)
-    ∙ take-map-range_with_len (generated_byte first) (32 * k) 32 (count % 32) few)
+    (ap (take (count % 32)) are ∙ take-map-range_with_len (generated_byte first) (32 * k) 32 (count % 32) few)
     ∙ ap (λ n. map (generated_byte first) (range_with_len 0 n)) all
+
+-- a turn of a sequence
+pub turned : (first k : ℕ) (now : Sequence) → IsAt first (32 * k + 32) now → IsAt first (32 * (k + 1)) now
+turned first k now is =
+    let count : 32 * k + 32 ≡ 32 * (k + 1) = omega arith in
+    subst (λ e. IsAt first e now) count is

@@ -2,3 +2,4 @@ pub mod Header
 pub mod BodyPieces
 pub mod Whole
 pub mod Lanes
+pub mod GeneratedPuts

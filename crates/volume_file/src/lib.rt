@@ -8,6 +8,7 @@ mod body;
 mod fault;
 mod generating;
 mod reading;
+mod sequence;
 #[cfg(test)]
 mod tests;
 mod volume;
@@ -15,7 +16,7 @@ mod writing;
 
 pub use body::read_body;
 pub use fault::VolumeFault;
-pub use generating::generate;
+pub use generating::{generate, write_generated};
 pub use reading::{read_head, read_volume};
 pub use volume::{Head, Volume};
 pub use writing::write_volume;

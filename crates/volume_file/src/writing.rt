@@ -23,7 +23,7 @@ pub fn write_volume<D: Desk>(desk: &mut D, port: Port, volume: &Volume) -> Resul
 }
 
 /// The text `AFFVOL01`, the axes, the number of channels, and eight bytes of zero.
-fn header(dims: &Dims) -> [u8; HEADER_LENGTH]
+pub fn header(dims: &Dims) -> [u8; HEADER_LENGTH]
     ensures { result ≡ volume_header dims.now }
 {
     let mut bytes = [0; HEADER_LENGTH];

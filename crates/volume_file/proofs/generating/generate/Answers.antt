@@ -2,32 +2,30 @@ use Rattle.std.proofs.Common.{◌≡◌, ◌+◌, ◌*◌, ◌/◌, ◌∙◌, a
 use Rattle.std.specs.List.{range_with_len}
 use Rattle.std.proofs.lemmas.List.FromFn.{length-map-range_with_len}
 use Rattle.agglo_model.specs.Generated.{generated_byte}
-use Rattle.volume_file.specs.Generating.{lanes_from}
-use Rattle.volume_file.proofs.Lanes.{lanes_appended, lanes_cut}
+use Rattle.volume_file.proofs.Lanes.{turn_appended, rest_appended, turned}
 use Rattle.volume_file.proofs.generating.generate.Goals as goal
 
 pub loop-preserved : goal.loop-preserved
 loop-preserved c =
-    let place : 32 * c.loop.counter + 32 ≡ 32 * (c.loop.counter + 1) = omega arith in (
+    let step = c.next_bytes.ensures c.args.start (32 * c.loop.counter) c.loop.invariant.1 in (
       c.in_ok-extend_from_slice.ensures.items
-          ∙ lanes_appended c.args.start c.loop.counter c.loop.lanes c.highest_bytes.result c.loop.body.items
-          c.loop.invariant.1 c.highest_bytes.ensures c.loop.invariant.0,
-      c.next_lanes-lanes.ensures c.args.start (32 * c.loop.counter) c.loop.invariant.1 ∙ ap (lanes_from c.args.start) place,
+          ∙ turn_appended c.args.start c.loop.counter c.next_bytes.result c.loop.body.items step.0 c.loop.invariant.0,
+      turned c.args.start c.loop.counter _ step.1,
     )
 
 pub of-requires : goal.of-requires
 of-requires c =
     let turns : c.loop.counter ≡ c.body_len-length.result / 32 = omega (arith, c.loop-test.false, c.loop.auto.counter-end) in
+    let step = c.next_bytes-2.ensures c.args.start (32 * c.loop.counter) c.loop.invariant.1 in
     let bytes = c.in_ok-extend_from_slice-2.ensures.items
-    ∙ lanes_cut c.args.start c.body_len-length.result c.loop.counter c.loop.lanes c.highest_bytes-2.result c.loop.body.items turns
-    c.loop.invariant.1 c.highest_bytes-2.ensures c.loop.invariant.0 in
+    ∙ rest_appended c.args.start c.body_len-length.result c.loop.counter c.next_bytes-2.result c.loop.body.items turns step.0 c.loop.invariant.0 in
     ap length bytes ∙ length-map-range_with_len (generated_byte c.args.start) 0 c.body_len-length.result ∙ c.body_len-length.ensures.value
 
 pub returns : goal.returns
 returns c =
     let turns : c.loop.counter ≡ c.body_len-length.result / 32 = omega (arith, c.loop-test.false, c.loop.auto.counter-end) in
+    let step = c.next_bytes-2.ensures c.args.start (32 * c.loop.counter) c.loop.invariant.1 in
     let bytes = c.in_ok-extend_from_slice-2.ensures.items
-    ∙ lanes_cut c.args.start c.body_len-length.result c.loop.counter c.loop.lanes c.highest_bytes-2.result c.loop.body.items turns
-    c.loop.invariant.1 c.highest_bytes-2.ensures c.loop.invariant.0
+    ∙ rest_appended c.args.start c.body_len-length.result c.loop.counter c.next_bytes-2.result c.loop.body.items turns step.0 c.loop.invariant.0
     ∙ ap (λ n. map (generated_byte c.args.start) (range_with_len 0 n)) c.body_len-length.ensures.value in
     c.of.ensures ∙ (λ i. record { axes = c.args.dims.now; bytes = bytes i })

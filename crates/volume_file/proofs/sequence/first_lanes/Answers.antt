@@ -1,7 +1,7 @@
 use Rattle.std.proofs.Common.{◌≡◌, ◌+◌, refl, ap, length-set, ◌∙◌, arith}
 use Rattle.agglo_model.specs.Generated.{next_number, number_after}
 use Rattle.volume_file.proofs.Lanes.{after_none, next_after, lane_set, are_lanes}
-use Rattle.volume_file.proofs.generating.first_lanes.Goals as goal
+use Rattle.volume_file.proofs.sequence.first_lanes.Goals as goal
 
 pub loop-i-init : goal.loop-i-init
 loop-i-init c = (refl, after_none c.args.start, λ j below. absurd (omega (arith, below)))

@@ -1,6 +1,6 @@
 use Rattle.std.proofs.Common.{◌/◌, ◌^◌, get_or, length-set, refl, ◌∙◌, arith}
 use Rattle.volume_file.proofs.Lanes.{lane_set, bytes_of_lanes}
-use Rattle.volume_file.proofs.generating.highest_bytes.Goals as goal
+use Rattle.volume_file.proofs.sequence.highest_bytes.Goals as goal
 
 pub loop-i-init : goal.loop-i-init
 loop-i-init c = (refl, λ j below. absurd (omega (arith, below)))

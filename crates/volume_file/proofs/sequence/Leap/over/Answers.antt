@@ -1,7 +1,7 @@
 use Rattle.std.proofs.Common.{◌≡◌, subst, arith}
 use Rattle.volume_file.specs.Generating.{LeapsOver}
 use Rattle.volume_file.proofs.Lanes.{leap_none, leap_more}
-use Rattle.volume_file.proofs.generating.Leap.over.Goals as goal
+use Rattle.volume_file.proofs.sequence.Leap.over.Goals as goal
 
 pub loop-init : goal.loop-init
 loop-init c = leap_none
