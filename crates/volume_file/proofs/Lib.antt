@@ -3,3 +3,4 @@ pub mod BodyPieces
 pub mod Whole
 pub mod Lanes
 pub mod GeneratedPuts
+pub mod Rounds

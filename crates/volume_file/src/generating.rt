@@ -21,10 +21,13 @@ pub fn generate(alloc: Global, start: u32, dims: &Dims) -> Result<Volume, Memory
     let length = dims.body_len() as usize;
     let mut body = Vec::with_capacity(alloc, length)?;
     let mut sequence = Sequence::after(start);
+    let mut bytes = [0; LANES];
     for _ in 0..length / LANES {
-        body.extend_from_slice(&sequence.next_bytes())?;
+        sequence.fill(&mut bytes);
+        body.extend_from_slice(&bytes)?;
     }
-    body.extend_from_slice(&sequence.next_bytes()[..length % LANES])?;
+    sequence.fill(&mut bytes);
+    body.extend_from_slice(&bytes[..length % LANES])?;
     let head = Head {
         dims: *dims,
         version: 1,
@@ -65,8 +68,11 @@ fn put_generated<D: Desk>(
         (λ _. FailsToPut (map (generated_byte start) (range_with_len 0 count)) piecer.old piecer.new (D.state desk.old) (D.state desk.new)) }
 {
     let mut sequence = Sequence::after(start);
+    let mut bytes = [0; LANES];
     for _ in 0..count / LANES {
-        piecer.put(desk, &sequence.next_bytes())?;
+        sequence.fill(&mut bytes);
+        piecer.put(desk, &bytes)?;
     }
-    piecer.put(desk, &sequence.next_bytes()[..count % LANES])
+    sequence.fill(&mut bytes);
+    piecer.put(desk, &bytes[..count % LANES])
 }

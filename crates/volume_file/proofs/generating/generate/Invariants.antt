@@ -5,5 +5,5 @@ use Rattle.volume_file.specs.Generating.{IsAt}
 use Rattle.volume_file.proofs.generating.generate.Given as goal
 
 abbrev pub invariant-loop : goal.invariant-loop
-invariant-loop l = (l.body.items ≡ map (generated_byte l.start) (range_with_len 0 (32 * l.counter)))
-    × IsAt l.start (32 * l.counter) l.sequence
+invariant-loop l = (l.body.items ≡ map (generated_byte l.start) (range_with_len 0 (65536 * l.counter)))
+    × IsAt l.start (65536 * l.counter) l.sequence

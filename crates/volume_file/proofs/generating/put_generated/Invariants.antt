@@ -6,6 +6,6 @@ use Rattle.volume_file.specs.Generating.{IsAt}
 use Rattle.volume_file.proofs.generating.put_generated.Given as goal
 
 abbrev pub invariant-loop : goal.invariant-loop
-invariant-loop g l = Puts (map (generated_byte l.start) (range_with_len 0 (32 * l.counter))) l.initial.piecer l.piecer
+invariant-loop g l = Puts (map (generated_byte l.start) (range_with_len 0 (65536 * l.counter))) l.initial.piecer l.piecer
     (g.D.Desk.state l.initial.desk) (g.D.Desk.state l.desk)
-    × IsAt l.start (32 * l.counter) l.sequence
+    × IsAt l.start (65536 * l.counter) l.sequence
