@@ -1,204 +1,128 @@
-use crate::{Volume, VolumeFault, generate, read_volume, write_volume};
-use agglo_model::Memory;
-use seg_base::{DimFault, Dims};
-use seg_io::{CallKind, Desk, Failed, MemoryDesk, Port};
+use crate::{Volume, generate, read_volume, write_volume};
+use seg_base::Dims;
+use seg_io::{CallKind, Desk, MemoryDesk, Port};
 use std::alloc::{AllocError, Global};
+use std::test::Fail;
 
-/// Why a test could not be run.
-#[derive(Debug, Drop)]
-enum Trouble {
-    Memory,
-    Input,
-    Volume(VolumeFault),
-    Dims(DimFault),
-}
+/// Files, and what reading them says. The words of a file are its bytes; one that is a number stands for the four
+/// bytes of it. A file of several faults tells the first.
+const READS: &str = "\
+AFFVOL01 4 1 1 3 0 0 abcdefghijkl: 4 voxels of version 1, edge 6 has 103; 0 left
+AFFVOL01 4 1 1 3 0 abc: the header has 31 bytes of 32; 0 left
+AFFVOL02 4 1 1 4 0 16777216 abc: this is no volume file; 3 left
+AFFVOL01 4 1 1 4 0 16777216 abc: there are 4 channels, not 3; 3 left
+AFFVOL01 4 0 1 3 0 16777216 abc: the reserved bytes are not zero; 3 left
+AFFVOL01 4 0 65536 3 0 0 a: axis 1 has no voxel; 1 left
+AFFVOL01 65536 1 1 3 0 0 a: axis 0 has more than 65535 voxels; 1 left
+AFFVOL01 65535 4097 1 3 0 0 a: there are more than 268435456 voxels; 1 left
+AFFVOL01 4 1 1 3 0 0 abcdefghijk: the body has only 11 bytes; 0 left
+AFFVOL01 4 1 1 3 0 0 abcdefghijklmn: there are bytes after the body; 1 left";
 
-impl From<AllocError> for Trouble {
-    fn from(_error: AllocError) -> Trouble {
-        Trouble::Memory
+/// The bytes of a file from its words.
+fn file(alloc: Global, words: &str) -> Result<Vec<u8>, AllocError> {
+    let mut bytes = Vec::new(alloc);
+    for word in words.split(' ') {
+        match word.parse::<u32>() {
+            Ok(number) => bytes.extend_from_slice(&number.to_le_bytes())?,
+            Err(_) => bytes.extend_from_slice(word.as_bytes())?,
+        }
     }
+    Ok(bytes)
 }
 
-impl From<Memory> for Trouble {
-    fn from(_memory: Memory) -> Trouble {
-        Trouble::Memory
-    }
-}
-
-impl From<Failed> for Trouble {
-    fn from(_failed: Failed) -> Trouble {
-        Trouble::Input
-    }
-}
-
-impl From<DimFault> for Trouble {
-    fn from(fault: DimFault) -> Trouble {
-        Trouble::Dims(fault)
-    }
-}
-
-impl From<VolumeFault> for Trouble {
-    fn from(fault: VolumeFault) -> Trouble {
-        Trouble::Volume(fault)
-    }
-}
-
-/// The bytes of a volume file with these axes and this number of channels.
-fn file_of(
-    alloc: Global,
-    axes: [u32; 3],
-    channels: u32,
-    body: &[u8],
-) -> Result<Vec<u8>, AllocError> {
-    let mut file = b"AFFVOL01".to_vec(alloc)?;
-    let [nx, ny, nz] = axes;
-    file.extend_from_slice(&nx.to_le_bytes())?;
-    file.extend_from_slice(&ny.to_le_bytes())?;
-    file.extend_from_slice(&nz.to_le_bytes())?;
-    file.extend_from_slice(&channels.to_le_bytes())?;
-    file.extend_from_slice(&[0; 8])?;
-    file.extend_from_slice(body)?;
-    Ok(file)
-}
-
-/// What reading a file of these bytes answers, and how many bytes are left of it.
-fn read(alloc: Global, file: &[u8]) -> Result<(Result<Volume, VolumeFault>, usize), Trouble> {
+/// What reading a file of these words says, in pieces of seven bytes. The read of this number fails.
+fn read(alloc: Global, words: &str, failing: u64) -> Result<String, Fail> {
+    let bytes = file(alloc, words)?;
     let mut desk = MemoryDesk::new(alloc, 0)?;
-    desk.add_file("v", file)?;
-    desk.open_in("v")?;
-    let answer = read_volume(alloc, &mut desk);
-    Ok((answer, desk.left()))
-}
-
-/// The fault of a file of these bytes, and how many bytes are left of it.
-fn fault_of(alloc: Global, file: &[u8]) -> Result<(Option<VolumeFault>, usize), Trouble> {
-    let (answer, left) = read(alloc, file)?;
-    Ok((answer.err(), left))
-}
-
-#[test]
-fn a_whole_file_is_read(rt: HostRuntime) -> Result<(), Trouble> {
-    let body = [0, 0, 0, 200, 0, 0, 50, 0, 0, 180, 0, 0];
-    let file = file_of(rt.alloc(), [4, 1, 1], 3, &body)?;
-    assert_eq!(rt; file.len(), 44);
-    let (answer, left) = read(rt.alloc(), &file)?;
-    let volume = answer?;
-    assert_eq!(rt; left, 0);
-    assert_eq!(rt; volume.bytes(), body.as_slice());
-    assert_eq!(rt; volume.dims().voxels(), 4);
-    assert_eq!(rt; volume.head().version, 1);
-    if volume.dims().body_len() == 12 {
-        assert_eq!(rt; volume.aff(6), 50);
-    }
-    Ok(())
-}
-
-/// So many bytes of the same value.
-fn repeated(alloc: Global, value: u8, count: usize) -> Result<Vec<u8>, AllocError> {
-    Vec::from_elem(alloc, value, count)
-}
-
-#[test]
-fn a_body_of_several_pieces_is_read(rt: HostRuntime) -> Result<(), Trouble> {
-    let mut body = repeated(rt.alloc(), 7, 269_999)?;
-    body.push(9).map_err(AllocError::from)?;
-    let mut file = file_of(rt.alloc(), [300, 300, 1], 3, &body)?;
-    let (answer, left) = read(rt.alloc(), &file)?;
-    let volume = answer?;
-    assert_eq!(rt; left, 0);
-    assert!(rt; volume.bytes() == body.as_slice());
-    assert_eq!(rt; file.pop(), Some(9));
-    let (fault, _) = fault_of(rt.alloc(), &file)?;
-    assert_eq!(rt; fault, Some(VolumeFault::Truncated(269_999)));
-    Ok(())
-}
-
-#[test]
-fn the_first_fault_of_a_header_is_told(rt: HostRuntime) -> Result<(), Trouble> {
-    let mut file = file_of(rt.alloc(), [4, 1, 1], 4, &[0; 3])?;
-    assert_eq!(rt; file.len(), 35);
-    let (fault, left) = fault_of(rt.alloc(), &[0; 31])?;
-    assert_eq!(rt; (fault, left), (Some(VolumeFault::ShortHeader(31)), 0));
-    let (fault, left) = fault_of(rt.alloc(), &file)?;
-    assert_eq!(rt;
-        (fault, left),
-        (Some(VolumeFault::Channels(4)), 3),
-        "not the short body"
-    );
-    file[20] = 3;
-    file[31] = 1;
-    let (fault, _) = fault_of(rt.alloc(), &file)?;
-    assert_eq!(rt; fault, Some(VolumeFault::Reserved));
-    file[7] = b'2';
-    let (fault, _) = fault_of(rt.alloc(), &file)?;
-    assert_eq!(rt; fault, Some(VolumeFault::Magic));
-    Ok(())
-}
-
-#[test]
-fn axes_are_judged_before_the_body(rt: HostRuntime) -> Result<(), Trouble> {
-    let file = file_of(rt.alloc(), [4, 0, 1], 3, &[0])?;
-    let (fault, left) = fault_of(rt.alloc(), &file)?;
-    assert_eq!(rt; (fault, left), (Some(VolumeFault::AxisZero(1)), 1));
-    let file = file_of(rt.alloc(), [65_536, 1, 1], 3, &[0])?;
-    let (fault, left) = fault_of(rt.alloc(), &file)?;
-    assert_eq!(rt; (fault, left), (Some(VolumeFault::AxisLarge(0)), 1));
-    let file = file_of(rt.alloc(), [65_535, 4_097, 1], 3, &[0])?;
-    let (fault, left) = fault_of(rt.alloc(), &file)?;
-    assert_eq!(rt; (fault, left), (Some(VolumeFault::TooMany), 1));
-    Ok(())
-}
-
-#[test]
-fn a_body_is_neither_short_nor_long(rt: HostRuntime) -> Result<(), Trouble> {
-    let file = file_of(rt.alloc(), [4, 1, 1], 3, &[5; 11])?;
-    let (fault, left) = fault_of(rt.alloc(), &file)?;
-    assert_eq!(rt; (fault, left), (Some(VolumeFault::Truncated(11)), 0));
-    let file = file_of(rt.alloc(), [4, 1, 1], 3, &[5; 14])?;
-    let (fault, left) = fault_of(rt.alloc(), &file)?;
-    assert_eq!(rt; (fault, left), (Some(VolumeFault::Trailing), 1));
-    Ok(())
-}
-
-/// What reading a file of these bytes answers in pieces of seven bytes, where the sixth read fails, and
-/// how many bytes are left of it.
-fn read_with_a_fault(alloc: Global, file: &[u8]) -> Result<(Option<VolumeFault>, usize), Trouble> {
-    let mut desk = MemoryDesk::new(alloc, 0)?;
-    desk.add_file("v", file)?;
-    desk.fail_call(CallKind::Read, 6)?;
+    desk.add_file("v", &bytes)?;
+    desk.fail_call(CallKind::Read, failing)?;
     desk.at_most(7);
+    read_from(alloc, &mut desk)
+}
+
+/// What reading the file `v` says, and how many bytes are left of it.
+fn read_from(alloc: Global, desk: &mut MemoryDesk) -> Result<String, Fail> {
     desk.open_in("v")?;
-    let answer = read_volume(alloc, &mut desk);
-    Ok((answer.err(), desk.left()))
+    let said = match read_volume(alloc, desk) {
+        Ok(volume) => text_of(alloc, &volume)?,
+        Err(fault) => format!(in alloc; "{fault}")?,
+    };
+    Ok(format!(in alloc; "{said}; {} left", desk.left())?)
+}
+
+fn text_of(alloc: Global, volume: &Volume) -> Result<String, AllocError> {
+    let voxels = volume.dims().voxels();
+    let version = volume.head().version;
+    let affinity = if volume.dims().body_len() > 6 {
+        volume.aff(6)
+    } else {
+        0
+    };
+    format!(in alloc; "{voxels} voxels of version {version}, edge 6 has {affinity}")
 }
 
 #[test]
-fn a_read_that_fails_is_told(rt: HostRuntime) -> Result<(), Trouble> {
-    let file = file_of(rt.alloc(), [4, 1, 1], 3, &[5; 12])?;
-    let (fault, left) = read_with_a_fault(rt.alloc(), &file)?;
-    assert_eq!(rt; fault, Some(VolumeFault::Read));
-    assert_eq!(rt; left, 12, "the header was read, in five pieces");
+fn a_volume_or_the_first_fault_is_read(rt: HostRuntime) -> Result<(), Fail> {
+    for line in READS.split('\n') {
+        let (words, said) = line.split_once(": ").ok_or("no answer")?;
+        let told = read(rt.alloc(), words, 0)?;
+        assert!(rt; told.as_str() == said, "{told} for {line}");
+    }
     Ok(())
 }
 
-/// The file of a generated volume of these axes.
-fn generated_file(alloc: Global, start: u32, axes: [u32; 3]) -> Result<Vec<u8>, Trouble> {
-    let mut desk = MemoryDesk::new(alloc, 1000)?;
-    desk.open_out(Port::Volume, "v")?;
-    let [nx, ny, nz] = axes;
-    let volume = generate(alloc, start, &Dims::new(nx, ny, nz)?)?;
-    write_volume(&mut desk, Port::Volume, &volume)?;
-    Ok(desk.written(Port::Volume).to_vec(alloc)?)
+#[test]
+fn a_read_that_fails_is_told(rt: HostRuntime) -> Result<(), Fail> {
+    let told = read(rt.alloc(), "AFFVOL01 4 1 1 3 0 0 abcdefghijkl", 6)?;
+    assert!(rt;
+        told.as_str() == "the input failed; 12 left",
+        "{told} after the header's five reads"
+    );
+    Ok(())
+}
+
+/// The file of a generated volume of these axes, as it stands on a port that is always open.
+fn generated_file(alloc: Global, start: u32, nx: u32, ny: u32) -> Result<Vec<u8>, Fail> {
+    let volume = generate(alloc, start, &Dims::new(nx, ny, 1)?)?;
+    let mut desk = MemoryDesk::new(alloc, 300_000)?;
+    write_to_note(alloc, &mut desk, &volume)
+}
+
+fn write_to_note(alloc: Global, desk: &mut MemoryDesk, volume: &Volume) -> Result<Vec<u8>, Fail> {
+    write_volume(desk, Port::Note, volume)?;
+    Ok(desk.written(Port::Note).to_vec(alloc)?)
+}
+
+/// Whether a volume is read of this file, and has the bytes that the file ends with.
+fn reads_back(alloc: Global, file: &[u8]) -> Result<bool, Fail> {
+    let mut desk = MemoryDesk::new(alloc, 0)?;
+    desk.add_file("v", file)?;
+    ends_with_body(alloc, &mut desk, file)
+}
+
+fn ends_with_body(alloc: Global, desk: &mut MemoryDesk, file: &[u8]) -> Result<bool, Fail> {
+    desk.open_in("v")?;
+    let volume = read_volume(alloc, desk)?;
+    Ok(file.ends_with(volume.bytes()))
+}
+
+fn is_same(bytes: &[u8], others: &[u8]) -> bool {
+    bytes == others
 }
 
 #[test]
-fn a_generated_volume_is_written(rt: HostRuntime) -> Result<(), Trouble> {
-    let body = [60, 71, 209, 170, 98, 159, 87, 163, 129];
-    let file = generated_file(rt.alloc(), 0, [3, 1, 1])?;
-    assert!(rt; file == file_of(rt.alloc(), [3, 1, 1], 3, &body)?);
-    let file = generated_file(rt.alloc(), 7, [5, 5, 5])?;
-    assert_eq!(rt; file.len(), 32 + 375);
-    assert_eq!(rt; file[32], 61);
-    assert_eq!(rt; file[406], 87);
+fn a_generated_volume_is_written(rt: HostRuntime) -> Result<(), Fail> {
+    let file = generated_file(rt.alloc(), 0, 3, 1)?;
+    let expected =
+        b"AFFVOL01\x03\0\0\0\x01\0\0\0\x01\0\0\0\x03\0\0\0\0\0\0\0\0\0\0\0\x3c\x47\xd1\xaa\x62\x9f\x57\xa3\x81";
+    assert!(rt; is_same(&file, expected));
+    Ok(())
+}
+
+#[test]
+fn a_volume_of_several_pieces_reads_back(rt: HostRuntime) -> Result<(), Fail> {
+    let file = generated_file(rt.alloc(), 7, 300, 300)?;
+    assert_eq!(rt; file.len(), 270_032);
+    assert!(rt; reads_back(rt.alloc(), &file)?);
     Ok(())
 }
