@@ -1,204 +1,141 @@
-use crate::{Volume, VolumeFault, generate, read_volume, write_volume};
-use agglo_model::Memory;
-use seg_base::{DimFault, Dims};
+use crate::{Volume, generate, read_volume, write_volume};
+use seg_base::Dims;
 use seg_io::{CallKind, Desk, Failed, MemoryDesk, Port};
 use std::alloc::{AllocError, Global};
+use std::test::Fail;
 
-/// Why a test could not be run.
-#[derive(Debug, Drop)]
-enum Trouble {
-    Memory,
-    Input,
-    Volume(VolumeFault),
-    Dims(DimFault),
-}
+/// Files, and what reading them says. The words of a file are its bytes; one that is a number stands for the four
+/// bytes of it. Of several faults the first is told.
+const READS: &str = "\
+AFFVOL01 4 1 1 3 0 0 abcdefghijkl: 4 voxels of version 1, edge 6 has 103, written back: true; 0 left
+AFFVOL01 4 1 1 3 0 abc: the header has 31 bytes of 32; 0 left
+AFFVOL02 4 1 1 4 0 16777216 abc: this is no volume file; 3 left
+AFFVOL01 4 1 1 4 0 16777216 abc: there are 4 channels, not 3; 3 left
+AFFVOL01 4 0 1 3 0 16777216 abc: the reserved bytes are not zero; 3 left
+AFFVOL01 4 0 65536 3 0 0 a: axis 1 has no voxel; 1 left
+AFFVOL01 65536 1 1 3 0 0 a: axis 0 has more than 65535 voxels; 1 left
+AFFVOL01 65535 4097 1 3 0 0 a: there are more than 268435456 voxels; 1 left
+AFFVOL01 4 1 1 3 0 0 abcdefghijk: the body has only 11 bytes; 0 left
+AFFVOL01 4 1 1 3 0 0 abcdefghijklmn: there are bytes after the body; 1 left";
 
-impl From<AllocError> for Trouble {
-    fn from(_error: AllocError) -> Trouble {
-        Trouble::Memory
+/// The bytes of a file from its words.
+fn file(alloc: Global, words: &str) -> Result<Vec<u8>, AllocError> {
+    let mut bytes = Vec::new(alloc);
+    for word in words.split(' ') {
+        match word.parse::<u32>() {
+            Ok(number) => bytes.extend_from_slice(&number.to_le_bytes())?,
+            Err(_) => bytes.extend_from_slice(word.as_bytes())?,
+        }
     }
+    Ok(bytes)
 }
 
-impl From<Memory> for Trouble {
-    fn from(_memory: Memory) -> Trouble {
-        Trouble::Memory
-    }
+/// What reading a file of these bytes says. The read of this number fails.
+///
+/// The desk is let go at one place alone: each further one, as after a `?`, would double the time of the proof.
+fn read(alloc: Global, bytes: &[u8], failing: u64) -> Result<String, Fail> {
+    let mut desk = MemoryDesk::new(alloc, 300_000)?;
+    read_on(alloc, &mut desk, bytes, failing)
 }
 
-impl From<Failed> for Trouble {
-    fn from(_failed: Failed) -> Trouble {
-        Trouble::Input
-    }
-}
-
-impl From<DimFault> for Trouble {
-    fn from(fault: DimFault) -> Trouble {
-        Trouble::Dims(fault)
-    }
-}
-
-impl From<VolumeFault> for Trouble {
-    fn from(fault: VolumeFault) -> Trouble {
-        Trouble::Volume(fault)
-    }
-}
-
-/// The bytes of a volume file with these axes and this number of channels.
-fn file_of(
+/// The same on this desk, in pieces of seven bytes, and how many bytes are left of the file.
+fn read_on(
     alloc: Global,
-    axes: [u32; 3],
-    channels: u32,
-    body: &[u8],
-) -> Result<Vec<u8>, AllocError> {
-    let mut file = b"AFFVOL01".to_vec(alloc)?;
-    let [nx, ny, nz] = axes;
-    file.extend_from_slice(&nx.to_le_bytes())?;
-    file.extend_from_slice(&ny.to_le_bytes())?;
-    file.extend_from_slice(&nz.to_le_bytes())?;
-    file.extend_from_slice(&channels.to_le_bytes())?;
-    file.extend_from_slice(&[0; 8])?;
-    file.extend_from_slice(body)?;
-    Ok(file)
+    desk: &mut MemoryDesk,
+    bytes: &[u8],
+    failing: u64,
+) -> Result<String, Fail> {
+    desk.add_file("v", bytes)?;
+    desk.fail_call(CallKind::Read, failing)?;
+    desk.at_most(7);
+    let said = read_volume_on(alloc, desk, bytes)?;
+    Ok(format!(in alloc; "{said}; {} left", desk.left())?)
 }
 
-/// What reading a file of these bytes answers, and how many bytes are left of it.
-fn read(alloc: Global, file: &[u8]) -> Result<(Result<Volume, VolumeFault>, usize), Trouble> {
-    let mut desk = MemoryDesk::new(alloc, 0)?;
-    desk.add_file("v", file)?;
+fn read_volume_on(alloc: Global, desk: &mut MemoryDesk, bytes: &[u8]) -> Result<String, Fail> {
     desk.open_in("v")?;
-    let answer = read_volume(alloc, &mut desk);
-    Ok((answer, desk.left()))
+    match read_volume(alloc, desk) {
+        Ok(volume) => {
+            let is_same = writes_back(desk, &volume, bytes)?;
+            Ok(text_of(alloc, &volume, is_same)?)
+        }
+        Err(fault) => Ok(format!(in alloc; "{fault}")?),
+    }
 }
 
-/// The fault of a file of these bytes, and how many bytes are left of it.
-fn fault_of(alloc: Global, file: &[u8]) -> Result<(Option<VolumeFault>, usize), Trouble> {
-    let (answer, left) = read(alloc, file)?;
-    Ok((answer.err(), left))
+/// Whether the file of this volume has these bytes. It is written on a port that is always open.
+fn writes_back(desk: &mut MemoryDesk, volume: &Volume, bytes: &[u8]) -> Result<bool, Failed> {
+    write_volume(desk, Port::Note, volume)?;
+    Ok(desk.written(Port::Note) == bytes)
+}
+
+fn text_of(alloc: Global, volume: &Volume, is_same: bool) -> Result<String, AllocError> {
+    let voxels = volume.dims().voxels();
+    let version = volume.head().version;
+    let affinity = affinity_of_edge_6(volume);
+    format!(in alloc;
+        "{voxels} voxels of version {version}, edge 6 has {affinity}, written back: {is_same}"
+    )
+}
+
+fn affinity_of_edge_6(volume: &Volume) -> u8 {
+    if volume.dims().body_len() > 6 {
+        volume.aff(6)
+    } else {
+        0
+    }
+}
+
+/// What reading a file of these words says.
+fn read_words(alloc: Global, words: &str, failing: u64) -> Result<String, Fail> {
+    let bytes = file(alloc, words)?;
+    read(alloc, &bytes, failing)
 }
 
 #[test]
-fn a_whole_file_is_read(rt: HostRuntime) -> Result<(), Trouble> {
-    let body = [0, 0, 0, 200, 0, 0, 50, 0, 0, 180, 0, 0];
-    let file = file_of(rt.alloc(), [4, 1, 1], 3, &body)?;
-    assert_eq!(rt; file.len(), 44);
-    let (answer, left) = read(rt.alloc(), &file)?;
-    let volume = answer?;
-    assert_eq!(rt; left, 0);
-    assert_eq!(rt; volume.bytes(), body.as_slice());
-    assert_eq!(rt; volume.dims().voxels(), 4);
-    assert_eq!(rt; volume.head().version, 1);
-    if volume.dims().body_len() == 12 {
-        assert_eq!(rt; volume.aff(6), 50);
+fn a_volume_or_the_first_fault_is_read(rt: HostRuntime) -> Result<(), Fail> {
+    for line in READS.split('\n') {
+        let (words, said) = line.split_once(": ").ok_or("no answer")?;
+        let told = read_words(rt.alloc(), words, 0)?;
+        assert_eq!(rt; told.as_str(), said);
     }
     Ok(())
 }
 
-/// So many bytes of the same value.
-fn repeated(alloc: Global, value: u8, count: usize) -> Result<Vec<u8>, AllocError> {
-    Vec::from_elem(alloc, value, count)
-}
-
 #[test]
-fn a_body_of_several_pieces_is_read(rt: HostRuntime) -> Result<(), Trouble> {
-    let mut body = repeated(rt.alloc(), 7, 269_999)?;
-    body.push(9).map_err(AllocError::from)?;
-    let mut file = file_of(rt.alloc(), [300, 300, 1], 3, &body)?;
-    let (answer, left) = read(rt.alloc(), &file)?;
-    let volume = answer?;
-    assert_eq!(rt; left, 0);
-    assert!(rt; volume.bytes() == body.as_slice());
-    assert_eq!(rt; file.pop(), Some(9));
-    let (fault, _) = fault_of(rt.alloc(), &file)?;
-    assert_eq!(rt; fault, Some(VolumeFault::Truncated(269_999)));
+fn a_read_that_fails_is_told(rt: HostRuntime) -> Result<(), Fail> {
+    let told = read_words(rt.alloc(), "AFFVOL01 4 1 1 3 0 0 abcdefghijkl", 6)?;
+    // the header was read, in five pieces
+    assert_eq!(rt; told.as_str(), "the input failed; 12 left");
     Ok(())
 }
 
+/// What reading a volume of 300 x 300 voxels says, whose body is read in two pieces.
+fn read_pieces(alloc: Global) -> Result<String, Fail> {
+    let mut bytes = file(alloc, "AFFVOL01 300 300 1 3 0 0")?;
+    bytes.resize(270_032, 7)?;
+    read(alloc, &bytes, 0)
+}
+
 #[test]
-fn the_first_fault_of_a_header_is_told(rt: HostRuntime) -> Result<(), Trouble> {
-    let mut file = file_of(rt.alloc(), [4, 1, 1], 4, &[0; 3])?;
-    assert_eq!(rt; file.len(), 35);
-    let (fault, left) = fault_of(rt.alloc(), &[0; 31])?;
-    assert_eq!(rt; (fault, left), (Some(VolumeFault::ShortHeader(31)), 0));
-    let (fault, left) = fault_of(rt.alloc(), &file)?;
+fn a_body_of_several_pieces_is_read(rt: HostRuntime) -> Result<(), Fail> {
+    let told = read_pieces(rt.alloc())?;
     assert_eq!(rt;
-        (fault, left),
-        (Some(VolumeFault::Channels(4)), 3),
-        "not the short body"
+        told.as_str(),
+        "90000 voxels of version 1, edge 6 has 7, written back: true; 0 left"
     );
-    file[20] = 3;
-    file[31] = 1;
-    let (fault, _) = fault_of(rt.alloc(), &file)?;
-    assert_eq!(rt; fault, Some(VolumeFault::Reserved));
-    file[7] = b'2';
-    let (fault, _) = fault_of(rt.alloc(), &file)?;
-    assert_eq!(rt; fault, Some(VolumeFault::Magic));
     Ok(())
 }
 
-#[test]
-fn axes_are_judged_before_the_body(rt: HostRuntime) -> Result<(), Trouble> {
-    let file = file_of(rt.alloc(), [4, 0, 1], 3, &[0])?;
-    let (fault, left) = fault_of(rt.alloc(), &file)?;
-    assert_eq!(rt; (fault, left), (Some(VolumeFault::AxisZero(1)), 1));
-    let file = file_of(rt.alloc(), [65_536, 1, 1], 3, &[0])?;
-    let (fault, left) = fault_of(rt.alloc(), &file)?;
-    assert_eq!(rt; (fault, left), (Some(VolumeFault::AxisLarge(0)), 1));
-    let file = file_of(rt.alloc(), [65_535, 4_097, 1], 3, &[0])?;
-    let (fault, left) = fault_of(rt.alloc(), &file)?;
-    assert_eq!(rt; (fault, left), (Some(VolumeFault::TooMany), 1));
-    Ok(())
+/// The affinities of a generated volume of three voxels, as text.
+fn generated(alloc: Global) -> Result<String, Fail> {
+    let volume = generate(alloc, 0, &Dims::new(3, 1, 1)?)?;
+    Ok(format!(in alloc; "{:?}", volume.bytes())?)
 }
 
 #[test]
-fn a_body_is_neither_short_nor_long(rt: HostRuntime) -> Result<(), Trouble> {
-    let file = file_of(rt.alloc(), [4, 1, 1], 3, &[5; 11])?;
-    let (fault, left) = fault_of(rt.alloc(), &file)?;
-    assert_eq!(rt; (fault, left), (Some(VolumeFault::Truncated(11)), 0));
-    let file = file_of(rt.alloc(), [4, 1, 1], 3, &[5; 14])?;
-    let (fault, left) = fault_of(rt.alloc(), &file)?;
-    assert_eq!(rt; (fault, left), (Some(VolumeFault::Trailing), 1));
-    Ok(())
-}
-
-/// What reading a file of these bytes answers in pieces of seven bytes, where the sixth read fails, and
-/// how many bytes are left of it.
-fn read_with_a_fault(alloc: Global, file: &[u8]) -> Result<(Option<VolumeFault>, usize), Trouble> {
-    let mut desk = MemoryDesk::new(alloc, 0)?;
-    desk.add_file("v", file)?;
-    desk.fail_call(CallKind::Read, 6)?;
-    desk.at_most(7);
-    desk.open_in("v")?;
-    let answer = read_volume(alloc, &mut desk);
-    Ok((answer.err(), desk.left()))
-}
-
-#[test]
-fn a_read_that_fails_is_told(rt: HostRuntime) -> Result<(), Trouble> {
-    let file = file_of(rt.alloc(), [4, 1, 1], 3, &[5; 12])?;
-    let (fault, left) = read_with_a_fault(rt.alloc(), &file)?;
-    assert_eq!(rt; fault, Some(VolumeFault::Read));
-    assert_eq!(rt; left, 12, "the header was read, in five pieces");
-    Ok(())
-}
-
-/// The file of a generated volume of these axes.
-fn generated_file(alloc: Global, start: u32, axes: [u32; 3]) -> Result<Vec<u8>, Trouble> {
-    let mut desk = MemoryDesk::new(alloc, 1000)?;
-    desk.open_out(Port::Volume, "v")?;
-    let [nx, ny, nz] = axes;
-    let volume = generate(alloc, start, &Dims::new(nx, ny, nz)?)?;
-    write_volume(&mut desk, Port::Volume, &volume)?;
-    Ok(desk.written(Port::Volume).to_vec(alloc)?)
-}
-
-#[test]
-fn a_generated_volume_is_written(rt: HostRuntime) -> Result<(), Trouble> {
-    let body = [60, 71, 209, 170, 98, 159, 87, 163, 129];
-    let file = generated_file(rt.alloc(), 0, [3, 1, 1])?;
-    assert!(rt; file == file_of(rt.alloc(), [3, 1, 1], 3, &body)?);
-    let file = generated_file(rt.alloc(), 7, [5, 5, 5])?;
-    assert_eq!(rt; file.len(), 32 + 375);
-    assert_eq!(rt; file[32], 61);
-    assert_eq!(rt; file[406], 87);
+fn a_volume_is_generated(rt: HostRuntime) -> Result<(), Fail> {
+    let told = generated(rt.alloc())?;
+    assert_eq!(rt; told.as_str(), "[60, 71, 209, 170, 98, 159, 87, 163, 129]");
     Ok(())
 }
