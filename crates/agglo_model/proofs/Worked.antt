@@ -5,7 +5,7 @@ use Rattle.agglo_model.specs.Axes.{voxel_count, lower_end, higher_end}
 use Rattle.agglo_model.specs.Grid.{Grid}
 use Rattle.agglo_model.specs.EdgeOrder.{IsBest, HasNoBest}
 use Rattle.agglo_model.specs.Basins.{label_of, AreBasins, BackgroundIsUnlabelled, LabelsAgreeAlong, RootsNameBasins}
-use Rattle.agglo_model.specs.Examples.{two_basins, plateau, three_basins, two_arms, labels_on_background, labels_of_halves, labels_by_higher}
+use Rattle.agglo_model.specs.Examples.{one_edge, two_basins, plateau, three_basins, two_arms, labels_on_background, labels_of_halves, labels_by_higher}
 use Rattle.agglo_model.proofs.Edges.{higher_end_below, lower_below_higher}
 use Rattle.agglo_model.proofs.BestEdge.{best_of, best_of_some, best_of_none, best_of_answers, has_best, no_strong_no_best, HasNoStrong}
 use Rattle.agglo_model.proofs.Ascent.{climb, basin_name, is_best}
@@ -101,6 +101,18 @@ named_holds g low labels t e b c =
     ap (λ o. is_best o e) (best_of_some g low (higher_end e) e c) ∙ eq-eqb e e refl in
     eqb-true (label_of labels v) (v + 1)
     (subst (λ z. cond z (label_of labels v == v + 1) true ≡ true) (ap₂ (λ x y. x && y) low_is high_is) at)
+
+pub one_edge_is : AreBasins one_edge 7 (1 ∷ 1 ∷ [])
+unfolding basin_labels basin_name climb best_of
+one_edge_is =
+    let is : basin_labels one_edge 7 ≡ (1 ∷ 1 ∷ []) = refl in
+    subst (λ l. AreBasins one_edge 7 l) is (basin_labels_are one_edge 7)
+
+pub one_edge_is_weak : AreBasins one_edge 8 (0 ∷ 0 ∷ [])
+unfolding basin_labels basin_name climb best_of
+one_edge_is_weak =
+    let is : basin_labels one_edge 8 ≡ (0 ∷ 0 ∷ []) = refl in
+    subst (λ l. AreBasins one_edge 8 l) is (basin_labels_are one_edge 8)
 
 pub two_basins_are : AreBasins two_basins 1 (1 ∷ 1 ∷ 3 ∷ 3 ∷ [])
 unfolding basin_labels basin_name climb best_of

@@ -12,6 +12,10 @@ row_bytes (x ∷ xs) = x ∷ 0 ∷ 0 ∷ row_bytes xs
 abbrev pub row : ℕ → List ℕ → Grid
 row voxels xs = record { axes = record { nx = voxels; ny = 1; nz = 1 }; bytes = row_bytes xs }
 
+-- two voxels
+abbrev pub one_edge : Grid
+one_edge = row 2 (0 ∷ 7 ∷ [])
+
 -- two basins of two voxels, with a weaker edge between them
 abbrev pub two_basins : Grid
 two_basins = row 4 (0 ∷ 200 ∷ 50 ∷ 180 ∷ [])

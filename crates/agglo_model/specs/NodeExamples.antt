@@ -6,6 +6,7 @@ use Rattle.agglo_model.specs.Greedy.{Merge}
 use Rattle.agglo_model.specs.Cutting.{Chunking}
 use Rattle.agglo_model.specs.CuttingExamples.{cut_row}
 use Rattle.agglo_model.specs.GreedyExamples.{row_volume, merge_of}
+use Rattle.agglo_model.specs.RegionGraph.{Region, GraphEdge, RegionGraph}
 
 -- four regions of two voxels each, whose contacts have the means 100, 90 and 100
 abbrev pub four_pairs : Grid
@@ -28,6 +29,23 @@ pairs_after_root = 1 ∷ 1 ∷ 1 ∷ 1 ∷ 5 ∷ 5 ∷ 5 ∷ 5 ∷ []
 -- the works at the threshold 100: a merge in the first leaf, none in the second, and one in the root
 abbrev pub pair_works : List (List Merge)
 pair_works = (merge_of 1 3 100 1 6 ∷ []) ∷ [] ∷ (merge_of 5 7 100 1 18 ∷ []) ∷ []
+
+-- a name with the faces that it touches
+abbrev pub region : ℕ → ℕ → Region
+region name faces = record { name = name; faces = faces }
+
+-- what the three nodes pass: each leaf its name at the face between them, and the root nothing
+abbrev pub pair_residues : List RegionGraph
+pair_residues = record { regions = region 5 2 ∷ []; edges = [] }
+    ∷ record { regions = region 7 1 ∷ []; edges = [] }
+    ∷ record { regions = []; edges = [] } ∷ []
+
+-- two names whose contact has the mean 90; the second touches the high face on x
+abbrev pub contact_1_5 : GraphEdge
+contact_1_5 = record { a = 1; b = 5; contact = record { sum = 90; count = 1; tie = 12 } }
+
+abbrev pub two_regions : RegionGraph
+two_regions = record { regions = region 1 0 ∷ region 5 2 ∷ []; edges = contact_1_5 ∷ [] }
 
 -- three voxels in a row
 abbrev pub three_voxels : Axes

@@ -1,12 +1,14 @@
 //! Worked examples: each definition at numbers that can be checked by hand.
-ghost use Rattle.std.specs.Prelude.{◌≡◌, ℕ, ◌++◌, ◌∷◌, List, [], length, codes, drop, take, false, true};
+ghost use Rattle.std.specs.Prelude.{◌≡◌, ℕ, ◌-◌, ◌^◌, ◌++◌, ◌∷◌, List, [], length, codes, drop, take, false, true};
 ghost use Rattle.agglo_model.specs.Axes.{AxisLarge, AxisZero, TooMany, axes_flaw, higher_end, is_edge, lower_end};
 ghost use Rattle.agglo_model.specs.Basins.{AreBasins, BackgroundIsUnlabelled, LabelsAgreeAlong, RootsNameBasins};
-ghost use Rattle.agglo_model.specs.EdgeOrder.{EdgeBefore};
+ghost use Rattle.agglo_model.specs.Count.{Rose};
+ghost use Rattle.agglo_model.specs.EdgeOrder.{EdgeBefore, IsStrongAt};
 ghost use Rattle.agglo_model.specs.Generated.{generated_volume};
-ghost use Rattle.agglo_model.specs.Examples.{box, file_with, labels_by_higher, labels_of_halves, labels_on_background, plateau, three_basins, two_arms, two_basins, two_basins_file, zeros};
+ghost use Rattle.agglo_model.specs.Examples.{box, file_with, labels_by_higher, labels_of_halves, labels_on_background, one_edge, plateau, three_basins, two_arms, two_basins, two_basins_file, zeros};
 ghost use Rattle.agglo_model.specs.LabelFile.{label_file};
 ghost use Rattle.agglo_model.specs.Note.{basins_note};
+ghost use Rattle.agglo_model.specs.Report.{report};
 ghost use Rattle.agglo_model.specs.VolumeFile.{BadAxes, Channels, Magic, Reserved, ShortHeader, Trailing, Truncated, volume_bytes, volume_flaw, volume_in};
 
 /// Two pairs of voxels, each with a strong edge: two basins, named by their first voxels.
@@ -17,6 +19,14 @@ pub fn basins_of_two_pairs()
 /// With a higher `low` the weaker pair is background.
 pub fn basins_above_a_threshold()
     ensures { AreBasins two_basins 190 (1 ∷ 1 ∷ 0 ∷ 0 ∷ []) }
+{}
+
+/// An edge of just `low` is strong and makes a basin; with a `low` that is greater by one it is weak.
+pub fn basin_at_the_threshold()
+    ensures strong { IsStrongAt one_edge 7 0 3 }
+    ensures weak { ¬ IsStrongAt one_edge 8 0 3 }
+    ensures basins { AreBasins one_edge 7 (1 ∷ 1 ∷ []) }
+    ensures background { AreBasins one_edge 8 (0 ∷ 0 ∷ []) }
 {}
 
 /// Among equal bytes the edge with the smaller number is the better, so all lead to the first.
@@ -104,6 +114,20 @@ pub fn text_of_a_note()
 pub fn note_with_background()
     ensures { basins_note (1 ∷ 1 ∷ 0 ∷ 0 ∷ [])
         ≡ codes "voxels 4" ++ 10 ∷ codes "foreground 2" ++ 10 ∷ codes "basins 1" ++ 10 ∷ [] }
+{}
+
+/// The report on two basins that a leaf of one level has made one region.
+pub fn text_of_a_report()
+    ensures { report 4 2 1 (record { nodes = 1; merges = 1; passed = 0 } ∷ [])
+        ≡ codes "voxels 4" ++ 10 ∷ codes "basins 2" ++ 10 ∷ codes "merges 1" ++ 10 ∷ codes "regions 1" ++ 10
+        ∷ codes "level 0 nodes 1 merges 1 passed 0" ++ 10 ∷ [] }
+{}
+
+/// A count rises by one or more, and stands still at its last value alone.
+pub fn counts_that_rose()
+    ensures risen { Rose 3 4 × Rose 3 5 × Rose (2 ^ 64 - 2) (2 ^ 64 - 1) }
+    ensures at_its_last { Rose (2 ^ 64 - 1) (2 ^ 64 - 1) }
+    ensures not_risen { (¬ Rose 3 3) × (¬ Rose 3 2) × (¬ Rose (2 ^ 64 - 2) (2 ^ 64 - 2)) }
 {}
 
 /// A whole volume file has no flaw, and holds its volume.

@@ -7,7 +7,11 @@ ghost use Rattle.agglo_model.specs.Connected.{AreConnected};
 ghost use Rattle.agglo_model.specs.Freezing.{IsFrozen, occurs_in, touched_faces};
 ghost use Rattle.agglo_model.specs.Greedy.{IsMutual};
 ghost use Rattle.agglo_model.specs.GreedyExamples.{mean_of};
-ghost use Rattle.agglo_model.specs.NodeExamples.{cut_pairs, four_pairs, pair_labels, pair_works, pairs_after_leaves, pairs_after_root, three_voxels};
+ghost use Rattle.agglo_model.specs.CuttingExamples.{cut_row};
+ghost use Rattle.agglo_model.specs.Joining.{is_crossing};
+ghost use Rattle.agglo_model.specs.NodeExamples.{cut_pairs, four_pairs, pair_labels, pair_residues, pair_works, pairs_after_leaves, pairs_after_root, region, three_voxels, two_regions};
+ghost use Rattle.agglo_model.specs.Segmentation.{level_count};
+ghost use Rattle.agglo_model.specs.Settling.{IsLeft};
 ghost use Rattle.agglo_model.specs.Work.{AreWorks, IsPassed, IsReciprocal, labels_after};
 
 /// A name is frozen where it touches the face between the two leaves; in the root there is none.
@@ -46,4 +50,26 @@ pub fn dropped_and_passed()
 /// A name in two parts is not connected.
 pub fn name_in_two_parts()
     ensures { ¬ (AreConnected three_voxels (1 ∷ 2 ∷ 1 ∷ [])) }
+{}
+
+/// Each level counts the merges of its nodes by themselves, and the names that they pass by themselves.
+pub fn counts_of_two_levels()
+    ensures leaves { level_count cut_pairs pair_works pair_residues 0 ≡ record { nodes = 2; merges = 1; passed = 2 } }
+    ensures root { level_count cut_pairs pair_works pair_residues 1 ≡ record { nodes = 1; merges = 1; passed = 0 } }
+{}
+
+/// Of two regions in contact both are left where the contact reaches the threshold, and else only the one
+/// that is held back.
+pub fn regions_that_are_left()
+    ensures reached { IsLeft (mean_of 90 1) 0 two_regions (region 1 0) × IsLeft (mean_of 90 1) 0 two_regions (region 5 2) }
+    ensures dropped { (¬ IsLeft (mean_of 91 1) 0 two_regions (region 1 0)) × (¬ IsLeft (mean_of 91 1) 0 two_regions (region 5 2)) }
+    ensures held_back { IsLeft (mean_of 91 1) 2 two_regions (region 5 2) }
+    ensures free { ¬ IsLeft (mean_of 91 1) 2 two_regions (region 1 0) }
+{}
+
+/// Three voxels in leaves of two: one edge lies inside the first leaf, and the other leads to the second.
+pub fn edges_between_leaves()
+    ensures inside { is_crossing (cut_row 3 2) 2 3 ≡ false }
+    ensures across { is_crossing (cut_row 3 2) 2 6 ≡ true }
+    ensures in_a_leaf { is_crossing (cut_row 3 2) 0 6 ≡ false }
 {}

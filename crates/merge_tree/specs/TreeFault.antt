@@ -8,11 +8,14 @@ use Rattle.merge_tree.specs.declared.tree_fault.TreeFault.TheVariants.{ShortHead
 use Rattle.merge_tree.specs.declared.tree_fault.InputFault.{InputFault}
 use Rattle.merge_tree.specs.declared.tree_fault.InputFault.TheVariants.{Read as InputRead, Memory as InputMemory}
 
+-- the fault of three axes that has the same words as their flaw
 abbrev pub axes_fault : AxesFlaw → DimFault
 axes_fault (FlawZero axis) = AxisZero axis
 axes_fault (FlawLarge axis) = AxisLarge axis
 axes_fault FlawTooMany = TooMany
 
+-- The fault of a tree file that has the same words as its flaw: each flaw has one of its own, with the number
+-- that the flaw tells. A fault of the input and want of memory tell of no flaw.
 abbrev pub fault_of : TreeFlaw → TreeFault
 fault_of (FlawShort got) = ShortHeader got
 fault_of FlawMagic = Magic

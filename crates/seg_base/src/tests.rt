@@ -1,5 +1,4 @@
 use crate::{Cell, DimFault, Dims, Labels};
-use agglo_model::Memory;
 use std::test::Fail;
 
 /// The axes of these lengths, where they have no fault.
@@ -68,17 +67,11 @@ fn a_cell_is_half_open(rt: HostRuntime) -> Result<(), Fail> {
     Ok(())
 }
 
-#[derive(Debug, Drop)]
-enum Trouble {
-    Dims(DimFault),
-    Memory(Memory),
-}
-
 #[test]
-fn labels_are_filled_set_and_read(rt: HostRuntime) -> Result<(), Trouble> {
-    let dims = dims_of(4, 1, 1).map_err(Trouble::Dims)?;
+fn labels_are_filled_set_and_read(rt: HostRuntime) -> Result<(), Fail> {
+    let dims = dims_of(4, 1, 1)?;
     assert!(rt; dims.voxels() == 4);
-    let mut labels = Labels::filled(rt.alloc(), &dims, 0).map_err(Trouble::Memory)?;
+    let mut labels = Labels::filled(rt.alloc(), &dims, 0)?;
     assert!(rt; labels.dims().voxels() == 4);
     assert_eq!(rt; labels.list(), [0, 0, 0, 0].as_slice());
     labels.set(2, 3);
