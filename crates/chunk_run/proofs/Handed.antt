@@ -16,7 +16,7 @@ use Rattle.chunk_run.specs.declared.lanes.Job.{Job}
 use Rattle.chunk_run.specs.declared.lanes.Lane.{Lane}
 use Rattle.chunk_run.specs.declared.lanes.Worked.{Worked}
 use Rattle.chunk_run.specs.Turns.{AreFromChildren, AreTaken, HasWorked, TakesTurn}
-use Rattle.chunk_run.specs.Lanes.{AreAscending, AreHandedOut, AreLeft, AreTurns, HasTaken, IsDone, IsReady, jobs_in, kid_lists, nodes_of}
+use Rattle.chunk_run.specs.Lanes.{AreAscending, AreHandedOut, AreChildResidues, AreTurns, HasTaken, IsDone, IsReady, jobs_in, kid_lists, nodes_of}
 use Rattle.chunk_run.proofs.Kids.{from_children}
 use Rattle.chunk_run.proofs.Numbers.{numbers_are, long, range_more}
 use Rattle.chunk_run.proofs.Parts.{zip_at, zip_long}
@@ -96,7 +96,7 @@ module _ (s : SiteView) (first n : ℕ) (before after : List (Option RegionGraph
       let at = node_at i d below in
       let place : first + i - first ≡ i = omega arith in
       let kids = get_or (kid_lists so_far.jobs) i [] in
-      let left = subst (λ k. AreLeft s.cutting taken.so_far.residues (first + i) (get_or (kid_lists so_far.jobs) k [])) place
+      let left = subst (λ k. AreChildResidues s.cutting taken.so_far.residues (first + i) (get_or (kid_lists so_far.jobs) k [])) place
       (taken.kids_are (first + i) (omega arith) (omega arith)) in
       let from = from_children s first n after merges levels taken.so_far (first + i) kids left in
       record {

@@ -11,7 +11,7 @@ use Rattle.agglo_model.proofs.NodeNesting.{IsParent, level_of_le}
 use Rattle.region_graph.specs.SiteView.{SiteView}
 use Rattle.work_laws.proofs.Children.{is_inner, child_below, child_level, child_parent, child_before}
 use Rattle.chunk_run.specs.Turns.{AreFromChildren, AreThere, AreTaken, HasWorked}
-use Rattle.chunk_run.specs.Lanes.{AreLeft}
+use Rattle.chunk_run.specs.Lanes.{AreChildResidues}
 
 -- a node with a parent
 some_parent : (b : Bool) (n p : ℕ) → b ≢ true → n ≡ p → cond b None (Some n) ≡ Some p
@@ -34,7 +34,7 @@ same_graph waiting x y is also = cc
 
 -- the residues that the run has left are the children's
 pub kids_are : (s : SiteView) (m p : ℕ) (waiting : List (Option RegionGraph)) (merges : List Merge) (levels : List Level)
-    (so_far : HasWorked s m p waiting merges levels) (n : ℕ) (kids : List RegionGraph) → AreLeft s.cutting so_far.residues n kids
+    (so_far : HasWorked s m p waiting merges levels) (n : ℕ) (kids : List RegionGraph) → AreChildResidues s.cutting so_far.residues n kids
     → AreKids s.grid s.threshold s.cutting s.labels so_far.works n kids
 kids_are s m p waiting merges levels so_far n kids left = record {
   one_each = left.one_each;
@@ -45,7 +45,7 @@ kids_are s m p waiting merges levels so_far n kids left = record {
 }
 
 pub from_children : (s : SiteView) (m p : ℕ) (waiting : List (Option RegionGraph)) (merges : List Merge) (levels : List Level)
-    (so_far : HasWorked s m p waiting merges levels) (n : ℕ) (kids : List RegionGraph) → AreLeft s.cutting so_far.residues n kids
+    (so_far : HasWorked s m p waiting merges levels) (n : ℕ) (kids : List RegionGraph) → AreChildResidues s.cutting so_far.residues n kids
     → AreFromChildren s n kids
 from_children s m p waiting merges levels so_far n kids left = record {
   one_each = left.one_each;
@@ -88,7 +88,7 @@ module _ (s : SiteView) (h : IsChunking s.cutting) (first n : ℕ) (node : n < n
     module _ (after : List (Option RegionGraph)) (kids : List RegionGraph)
         (taken : AreTaken s.cutting n (child_count s.cutting n) waiting after kids) where
       -- so those that were taken are the children's residues
-      pub are_left : AreLeft s.cutting so_far.residues n kids
+      pub are_left : AreChildResidues s.cutting so_far.residues n kids
       are_left = record {
         one_each = taken.one_each;
         before = λ i below. omega (arith, child_first i below, so_far.one_residue_each);

@@ -12,7 +12,7 @@ use Rattle.region_graph.specs.SiteView.{SiteView, IsSite}
 use Rattle.work_laws.specs.Turns.{ResiduesStay}
 use Rattle.chunk_run.specs.Turns.{AreTaken, HasRoom, TakesTurn, level_at, with_node}
 use Rattle.chunk_run.specs.declared.lanes.Worked.{Worked}
-use Rattle.chunk_run.specs.Lanes.{AreLeft, AreTurns, HasTaken}
+use Rattle.chunk_run.specs.Lanes.{AreChildResidues, AreTurns, HasTaken}
 use Rattle.chunk_run.proofs.Going.{goes_on}
 use Rattle.chunk_run.proofs.Kids.{are_left, kids_are, worked_still}
 use Rattle.chunk_run.proofs.LevelCounts.{residue_stays}
@@ -47,14 +47,14 @@ module _ (s : SiteView) (h : IsChunking s.cutting) (first n : ℕ) (node : n < n
     (so_far : HasTaken s first first n waiting merges levels lists) (kids : List RegionGraph)
     (taken : AreTaken s.cutting n (child_count s.cutting n) waiting after kids) where
   left_at : (q : ℕ) → first ≤ q → (q < n) ⊎ (q ≡ n)
-      → AreLeft s.cutting so_far.so_far.residues q (get_or (lists ++ kids ∷ []) (q - first) [])
+      → AreChildResidues s.cutting so_far.so_far.residues q (get_or (lists ++ kids ∷ []) (q - first) [])
   left_at q past (inl less) =
-      subst (AreLeft s.cutting so_far.so_far.residues q)
+      subst (AreChildResidues s.cutting so_far.so_far.residues q)
       (sym (get_or_append_left lists (kids ∷ []) [] (q - first) (omega arith))) (so_far.kids_are q past less)
   left_at q past (inr same) =
       let place : length lists ≡ q - first = omega arith in
-      subst (λ k. AreLeft s.cutting so_far.so_far.residues k (get_or (lists ++ kids ∷ []) (q - first) [])) (sym same)
-      (subst (AreLeft s.cutting so_far.so_far.residues n)
+      subst (λ k. AreChildResidues s.cutting so_far.so_far.residues k (get_or (lists ++ kids ∷ []) (q - first) [])) (sym same)
+      (subst (AreChildResidues s.cutting so_far.so_far.residues n)
       (sym (ap (λ k. get_or (lists ++ kids ∷ []) k []) (sym place) ∙ get_or-append_seam lists kids [] []))
       (are_left s h first n node from level waiting merges levels so_far.so_far after kids taken))
 
@@ -73,8 +73,8 @@ pub record IsStep (s : SiteView) (first m p : ℕ) (waiting : List (Option Regio
       (set levels (level_of s.cutting m) (with_node (level_at levels (level_of s.cutting m)) (length made) (length left.regions))) lists
 
 still_left : (s : SiteView) (works : List (List Merge)) (residues : List RegionGraph) (made : List Merge) (left : RegionGraph) (m n : ℕ)
-    → length works ≡ m → length residues ≡ m → (kids : List RegionGraph) → AreLeft s.cutting residues n kids
-    → AreLeft s.cutting (residues ++ left ∷ []) n kids
+    → length works ≡ m → length residues ≡ m → (kids : List RegionGraph) → AreChildResidues s.cutting residues n kids
+    → AreChildResidues s.cutting (residues ++ left ∷ []) n kids
 still_left s works residues made left m n worked long kids is = record {
   one_each = is.one_each;
   before = λ i below. omega (arith, is.before i below, length-append residues (left ∷ []));

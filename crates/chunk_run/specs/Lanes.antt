@@ -51,7 +51,7 @@ AreAscending done = (i j : ℕ) (d : Worked) → i ≤ j → j < length done →
 -- ---- nodes whose children were taken
 
 -- these are the residues of the children of node n, as the run has left them
-pub record AreLeft (c : Chunking) (residues : List RegionGraph) (n : ℕ) (kids : List RegionGraph) : Type 0 where
+pub record AreChildResidues (c : Chunking) (residues : List RegionGraph) (n : ℕ) (kids : List RegionGraph) : Type 0 where
   pub one_each : length kids ≡ child_count c n
   pub before : (i : ℕ) → i < child_count c n → child c n i < length residues
   pub are : (i : ℕ) → i < child_count c n → residue_of kids i ≡ residue_of residues (child c n i)
@@ -59,7 +59,7 @@ pub record AreLeft (c : Chunking) (residues : List RegionGraph) (n : ℕ) (kids 
 -- The first m nodes were worked, and those from m up to p have been given their kids, which are listed from node `first` on.
 pub record HasTaken (s : SiteView) (first m p : ℕ) (waiting : List (Option RegionGraph)) (merges : List Merge) (levels : List Level) (kids : List (List RegionGraph)) : Type 0 where
   pub so_far : HasWorked s m p waiting merges levels
-  pub kids_are : (n : ℕ) → m ≤ n → n < p → AreLeft s.cutting so_far.residues n (slice_index_or kids (n - first) [])
+  pub kids_are : (n : ℕ) → m ≤ n → n < p → AreChildResidues s.cutting so_far.residues n (slice_index_or kids (n - first) [])
 
 -- the nodes from `first` up to n were given their kids, and handed out in some order
 pub record AreHandedOut (s : SiteView) (first n : ℕ) (before after : List (Option RegionGraph)) (handed : List Job) : Type 0 where

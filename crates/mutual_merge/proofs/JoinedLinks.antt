@@ -11,7 +11,7 @@ use Rattle.agglo_model.proofs.GraphContacts.{contact_in-alike, contact_in-taken}
 use Rattle.agglo_model.proofs.Members.{contains_none, All-from_contains}
 use Rattle.mutual_merge.specs.declared.links.Link.{Link}
 use Rattle.mutual_merge.specs.Linked.{IsLink, LinkBefore, link_edges, edge_by, edges_by}
-use Rattle.mutual_merge.specs.Merged.{AreJoined, IsAppended, IsJoined, JoinsLast, NoLater, SameContactsBy}
+use Rattle.mutual_merge.specs.Merged.{AreJoined, IsAppended, IsJoinedLink, JoinsLast, NoLater, SameContactsBy}
 use Rattle.mutual_merge.proofs.MovedLinks.{pushed}
 
 -- a list by its last element
@@ -207,7 +207,7 @@ JoinedSoFar-join links i joined new l so_far at_l step = subst (JoinedSoFar link
     ascend = subst (AllPairs LinkBefore) step.old_is so_far.ascend
 
 pub JoinedSoFar-next : (links : List Link) (i : ℕ) (joined new : List Link) (l : Link) → JoinedSoFar links i joined
-    → AtNext links i l → IsJoined joined l new → JoinedSoFar links (i + 1) new
+    → AtNext links i l → IsJoinedLink joined l new → JoinedSoFar links (i + 1) new
 JoinedSoFar-next links i joined new l so_far at_l (inl step) = JoinedSoFar-join links i joined new l so_far at_l step
 JoinedSoFar-next links i joined new l so_far at_l (inr app) = JoinedSoFar-append links i joined new l so_far at_l app
 

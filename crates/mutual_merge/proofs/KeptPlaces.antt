@@ -10,10 +10,10 @@ use Rattle.agglo_model.specs.Settling.{IsLeftOf}
 use Rattle.agglo_model.proofs.Members.{contains_head, contains_tail, Contains-unmap, All-from_contains}
 use Rattle.mutual_merge.specs.declared.links.Link.{Link}
 use Rattle.mutual_merge.specs.Linked.{AreLinked, IsLink, region_at, name_at, edge_by, edges_by, graph_of}
-use Rattle.mutual_merge.specs.Left.{AreLeft, is_kept, kept_edges, kept_regions}
+use Rattle.mutual_merge.specs.Left.{AreLeft, is_kept, edges_left, regions_left}
 use Rattle.mutual_merge.specs.Trimmed.{AreKept, AreTrimmed, kept_links, link_at}
 use Rattle.mutual_merge.proofs.KeptRegions.{kept_upto-take, kept_upto-skip}
-use Rattle.mutual_merge.proofs.LeftGraphs.{Contains-unfilter, kept_edges-fewer, IsGraph-left, IsWithinEdges-left, IsLeftOf-left}
+use Rattle.mutual_merge.proofs.LeftGraphs.{Contains-unfilter, edges_left-fewer, IsGraph-left, IsWithinEdges-left, IsLeftOf-left}
 use Rattle.mutual_merge.proofs.LinkedEdges.{AreLinked-from_edges, IsInside, same_sums}
 
 -- what is kept of the first i regions
@@ -134,7 +134,7 @@ module _ (t : Threshold) (faces : ℕ) (regions : List Region) (links : List Lin
   same_links (l ∷ ls) ends =
       λ i. same_link l (ends l (contains_head l ls)) i ∷ same_links ls (λ m later. ends m (contains_tail l m ls later)) i
 
-  same_edges : edges_by (name_at left) (kept_links kept places links) ≡ kept_edges regions links kept
+  same_edges : edges_by (name_at left) (kept_links kept places links) ≡ edges_left regions links kept
   same_edges = same_links chosen ends_of
 
   inside : All (IsInside (length left)) (kept_links kept places links)
@@ -147,7 +147,7 @@ module _ (t : Threshold) (faces : ℕ) (regions : List Region) (links : List Lin
       }))
 
   abbrev kept_graph : RegionGraph
-  kept_graph = record { regions = kept_regions regions kept; edges = kept_edges regions links kept }
+  kept_graph = record { regions = regions_left regions kept; edges = edges_left regions links kept }
 
   same_graph : kept_graph ≡ graph_of left (kept_links kept places links)
   same_graph = λ i. record { regions = sym are_kept.regions_are i; edges = sym same_edges i }
@@ -157,17 +157,17 @@ module _ (t : Threshold) (faces : ℕ) (regions : List Region) (links : List Lin
     linked =
         let fit = linked.fit in
         let few = are_kept.few in
-        AreLinked-from_edges left (kept_edges regions links kept) (kept_links kept places links)
-        (subst (λ rs. IsGraph (record { regions = rs; edges = kept_edges regions links kept })) (sym are_kept.regions_are)
+        AreLinked-from_edges left (edges_left regions links kept) (kept_links kept places links)
+        (subst (λ rs. IsGraph (record { regions = rs; edges = edges_left regions links kept })) (sym are_kept.regions_are)
         (IsGraph-left regions links kept linked))
-        (subst (λ rs. IsWithinEdges (record { regions = rs; edges = kept_edges regions links kept })) (sym are_kept.regions_are)
+        (subst (λ rs. IsWithinEdges (record { regions = rs; edges = edges_left regions links kept })) (sym are_kept.regions_are)
         (IsWithinEdges-left regions links kept linked))
         (omega arith) inside same_edges;
     few = are_kept.few;
     fewer =
         let mine = same_sums (name_at left) (kept_links kept places links) in
         let same = ap (sum_by (λ e. e.contact.count)) same_edges in
-        let least = kept_edges-fewer regions links kept in
+        let least = edges_left-fewer regions links kept in
         omega (arith, mine, same, least);
     left_is = subst (IsLeftOf t faces (graph_of regions links)) same_graph (IsLeftOf-left regions links kept linked t faces are_left);
   }

@@ -14,7 +14,7 @@ use Rattle.agglo_model.specs.Settling.{IsLeft, IsLeftOf}
 use Rattle.agglo_model.proofs.Members.{contains_cases, contains_head, contains_none, contains_tail, Contains-map, Contains-unmap}
 use Rattle.mutual_merge.specs.declared.links.Link.{Link}
 use Rattle.mutual_merge.specs.Linked.{Ascend, AreLinked, IsLink, LinkBefore, link_edges, region_at, name_at, faces_at, edge_by, edges_by, graph_of}
-use Rattle.mutual_merge.specs.Left.{AreLeft, IsLeftAt, is_kept, kept_edges, kept_regions}
+use Rattle.mutual_merge.specs.Left.{AreLeft, IsLeftAt, is_kept, edges_left, regions_left}
 use Rattle.mutual_merge.proofs.RegionPlaces.{names_ascend, region_place, same_place}
 use Rattle.mutual_merge.proofs.LinkedEdges.{same_sums}
 use Rattle.mutual_merge.proofs.PairRounds.{linked_graph, link_of}
@@ -64,9 +64,9 @@ filtered-fewer regions links p =
     let both = sum_by-filter_both p (λ l. not (p l)) (λ l. refl) (λ (l : Link). l.contact.count) links in
     omega (arith, sums, both)
 
-pub kept_edges-fewer : (regions : List Region) (links : List Link) (kept : List Bool)
-    → sum_by (λ e. e.contact.count) (kept_edges regions links kept) ≤ link_edges links
-kept_edges-fewer regions links kept = filtered-fewer regions links (λ l. is_kept kept l.a && is_kept kept l.b)
+pub edges_left-fewer : (regions : List Region) (links : List Link) (kept : List Bool)
+    → sum_by (λ e. e.contact.count) (edges_left regions links kept) ≤ link_edges links
+edges_left-fewer regions links kept = filtered-fewer regions links (λ l. is_kept kept l.a && is_kept kept l.b)
 
 -- a part of the links, by a test, is linked as they are
 pub filtered_linked : (regions : List Region) (links : List Link) (p : Link → Bool) → AreLinked regions links
@@ -92,19 +92,19 @@ module _ (regions : List Region) (links : List Link) (kept : List Bool) (linked 
   still_linked = filtered_linked regions links (λ l. is_kept kept l.a && is_kept kept l.b) linked
 
   -- the place of a region that is kept
-  pub kept_place : (r : Region) → Contains (kept_regions regions kept) r
+  pub kept_place : (r : Region) → Contains (regions_left regions kept) r
       → (k : ℕ) × (k < length regions) × (is_kept kept k ≡ true) × (region_at regions k ≡ r)
   kept_place r inside =
       let found = Contains-unmap (region_at regions) (filter (is_kept kept) (range_with_len 0 (length regions))) r inside in
       let passed = Contains-unfilter (is_kept kept) (range_with_len 0 (length regions)) found.0 found.1 in
       (found.0, in_range (length regions) found.0 passed.0, passed.1, found.2)
 
-  pub kept_there : (k : ℕ) → k < length regions → is_kept kept k ≡ true → Contains (kept_regions regions kept) (region_at regions k)
+  pub kept_there : (k : ℕ) → k < length regions → is_kept kept k ≡ true → Contains (regions_left regions kept) (region_at regions k)
   kept_there k below pass =
       Contains-map (region_at regions) (filter (is_kept kept) (range_with_len 0 (length regions))) k
       (Contains-filter (is_kept kept) (range_with_len 0 (length regions)) k (range_has (length regions) k below) pass)
 
-  kept_ascend : Ascend (kept_regions regions kept)
+  kept_ascend : Ascend (regions_left regions kept)
   kept_ascend i j d before below =
       let ks = filter (is_kept kept) (range_with_len 0 (length regions)) in
       let len = length-map ks (region_at regions) in
@@ -113,7 +113,7 @@ module _ (regions : List Region) (links : List Link) (kept : List Bool) (linked 
       let in_m = in_range (length regions) m (Contains-unfilter (is_kept kept) (range_with_len 0 (length regions)) m (Contains-get_or ks j 0 (omega arith))).0 in
       let up : k < m = AllPairs-filter (λ x y. x < y) (is_kept kept) (range_with_len 0 (length regions)) rising i j 0 before (omega arith) in
       let less = names_ascend regions k m linked.regions_ascend up in_m in
-      subst (λ z. z.name < (get_or (kept_regions regions kept) j d).name) (sym (get_or-map (region_at regions) ks i 0 d (omega arith)))
+      subst (λ z. z.name < (get_or (regions_left regions kept) j d).name) (sym (get_or-map (region_at regions) ks i 0 d (omega arith)))
       (subst (λ z. name_at regions k < z.name) (sym (get_or-map (region_at regions) ks j 0 d (omega arith))) less)
     where
       rising : AllPairs (λ x y. x < y) (range_with_len 0 (length regions))
@@ -124,7 +124,7 @@ module _ (regions : List Region) (links : List Link) (kept : List Bool) (linked 
           omega arith
 
   -- the link of an edge that is kept
-  pub edge_link : (e : GraphEdge) → Contains (kept_edges regions links kept) e
+  pub edge_link : (e : GraphEdge) → Contains (edges_left regions links kept) e
       → (l : Link) × Contains links l × (is_kept kept l.a ≡ true) × (is_kept kept l.b ≡ true) × (edge_by (name_at regions) l ≡ e)
   edge_link e inside =
       let found = link_of regions (filter (λ l. is_kept kept l.a && is_kept kept l.b) links) still_linked e inside in
@@ -133,15 +133,15 @@ module _ (regions : List Region) (links : List Link) (kept : List Bool) (linked 
       (found.0, passed.0, both.0, both.1, found.2)
 
   pub has_kept : (k x : ℕ) → k < length regions → is_kept kept k ≡ true → name_at regions k ≡ x
-      → HasRegion (record { regions = kept_regions regions kept; edges = kept_edges regions links kept }) x
+      → HasRegion (record { regions = regions_left regions kept; edges = edges_left regions links kept }) x
   has_kept k x below pass name =
-      subst (HasRegion (record { regions = kept_regions regions kept; edges = kept_edges regions links kept })) name
+      subst (HasRegion (record { regions = regions_left regions kept; edges = edges_left regions links kept })) name
       (faces_at regions k, kept_there k below pass)
 
   pub a_in : (l : Link) → Contains links l → l.a < length regions
   a_in l inside = let is = link_in l inside in let up = is.ordered in let low = is.inside in omega arith
 
-  pub IsGraph-left : IsGraph (record { regions = kept_regions regions kept; edges = kept_edges regions links kept })
+  pub IsGraph-left : IsGraph (record { regions = regions_left regions kept; edges = edges_left regions links kept })
   IsGraph-left =
       let whole = linked_graph regions (filter (λ l. is_kept kept l.a && is_kept kept l.b) links) still_linked in
       record {
@@ -155,24 +155,24 @@ module _ (regions : List Region) (links : List Link) (kept : List Bool) (linked 
             let l = edge_link e inside in has_kept l.0.b e.b (link_in l.0 l.1).inside l.3 (ap (λ z. z.b) l.4);
       }
 
-  pub IsWithinEdges-left : IsWithinEdges (record { regions = kept_regions regions kept; edges = kept_edges regions links kept })
+  pub IsWithinEdges-left : IsWithinEdges (record { regions = regions_left regions kept; edges = edges_left regions links kept })
   IsWithinEdges-left =
       let sums = same_sums (name_at regions) (filter (λ l. is_kept kept l.a && is_kept kept l.b) links) in
       let within = still_linked.links_are.within in
       omega arith
 
   pub kept_name : (k x : ℕ) → k < length regions → name_at regions k ≡ x
-      → HasRegion (record { regions = kept_regions regions kept; edges = kept_edges regions links kept }) x → is_kept kept k ≡ true
+      → HasRegion (record { regions = regions_left regions kept; edges = edges_left regions links kept }) x → is_kept kept k ≡ true
   kept_name k x below name (f, inside) =
       let place = kept_place (record { name = x; faces = f }) inside in
       let same = same_place regions place.0 k linked.regions_ascend place.1 below (ap (λ r. r.name) place.3 ∙ sym name) in
       subst (λ z. is_kept kept z ≡ true) same place.2
 
   -- the edges that are kept are those among the regions that are
-  pub kept_edges_are : (e : GraphEdge) → Contains (kept_edges regions links kept) e
+  pub kept_edges_are : (e : GraphEdge) → Contains (edges_left regions links kept) e
       ↔ (Contains (edges_by (name_at regions) links) e
-      × HasRegion (record { regions = kept_regions regions kept; edges = kept_edges regions links kept }) e.a
-      × HasRegion (record { regions = kept_regions regions kept; edges = kept_edges regions links kept }) e.b)
+      × HasRegion (record { regions = regions_left regions kept; edges = edges_left regions links kept }) e.a
+      × HasRegion (record { regions = regions_left regions kept; edges = edges_left regions links kept }) e.b)
   kept_edges_are e = (
     λ inside.
         let l = edge_link e inside in (
@@ -185,7 +185,7 @@ module _ (regions : List Region) (links : List Link) (kept : List Bool) (linked 
         let l = found.0 in
         let a = kept_name l.a e.a (a_in l found.1) (ap (λ z. z.a) found.2) from in
         let b = kept_name l.b e.b (link_in l found.1).inside (ap (λ z. z.b) found.2) to in
-        subst (Contains (kept_edges regions links kept)) found.2
+        subst (Contains (edges_left regions links kept)) found.2
         (Contains-map (edge_by (name_at regions)) (filter (λ l. is_kept kept l.a && is_kept kept l.b) links) l
         (Contains-filter (λ l. is_kept kept l.a && is_kept kept l.b) links l found.1 (and_of (is_kept kept l.a) (is_kept kept l.b) a b))),
   )
@@ -218,7 +218,7 @@ module _ (regions : List Region) (links : List Link) (kept : List Bool) (linked 
           subst (λ z. Reaches t z.contact) (sym found.2) reaches,
         )
 
-    pub IsLeftOf-left : IsLeftOf t faces (graph_of regions links) (record { regions = kept_regions regions kept; edges = kept_edges regions links kept })
+    pub IsLeftOf-left : IsLeftOf t faces (graph_of regions links) (record { regions = regions_left regions kept; edges = edges_left regions links kept })
     IsLeftOf-left = record {
       graph_is = IsGraph-left;
       regions = λ r. (
@@ -232,7 +232,7 @@ module _ (regions : List Region) (links : List Link) (kept : List Bool) (linked 
         λ (inside, left).
             let place = region_place regions r inside in
             let here = left_at place.0 place.1 (subst (IsLeft t faces (graph_of regions links)) (sym place.2) left) in
-            subst (Contains (kept_regions regions kept)) place.2
+            subst (Contains (regions_left regions kept)) place.2
             (kept_there place.0 place.1 ((are_left.each place.0 place.1).1 here)),
       );
       edges = kept_edges_are;

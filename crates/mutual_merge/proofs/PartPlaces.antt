@@ -11,7 +11,7 @@ use Rattle.agglo_model.specs.Settling.{IsHeldBack}
 use Rattle.agglo_model.proofs.Members.{Contains-map}
 use Rattle.mutual_merge.specs.declared.links.Link.{Link}
 use Rattle.mutual_merge.specs.Linked.{AreLinked, Ascend, IsLink, link_edges, region_at, name_at, faces_at, edge_by, graph_of}
-use Rattle.mutual_merge.specs.Left.{is_kept, kept_edges, kept_regions}
+use Rattle.mutual_merge.specs.Left.{is_kept, edges_left, regions_left}
 use Rattle.mutual_merge.specs.Parts.{AreAside, AreMarked, IsParted, MayRest, awake_edges, is_awake, marked}
 use Rattle.mutual_merge.proofs.RegionPlaces.{names_ascend, region_place}
 use Rattle.mutual_merge.proofs.LinkedEdges.{same_sums}
@@ -50,7 +50,7 @@ module _ (faces : ℕ) (regions : List Region) (links : List Link) (rest : List 
   whole = graph_of regions links
 
   abbrev aside : RegionGraph
-  aside = record { regions = kept_regions regions rest; edges = kept_edges regions links rest }
+  aside = record { regions = regions_left regions rest; edges = edges_left regions links rest }
 
   abbrev awake : RegionGraph
   awake = record { regions = marked_are; edges = awake_edges regions links rest }
@@ -205,7 +205,7 @@ module _ (faces : ℕ) (regions : List Region) (links : List Link) (rest : List 
 
 -- both parts together have the edges of the grid that the links have
 pub part_edges : (regions : List Region) (links : List Link) (rest : List Bool)
-    → sum_by (λ e. e.contact.count) (kept_edges regions links rest) + sum_by (λ e. e.contact.count) (awake_edges regions links rest)
+    → sum_by (λ e. e.contact.count) (edges_left regions links rest) + sum_by (λ e. e.contact.count) (awake_edges regions links rest)
     ≤ link_edges links
 part_edges regions links rest =
     let p : Link → Bool = λ l. is_kept rest l.a && is_kept rest l.b in

@@ -35,9 +35,9 @@ pub record AreLeft (t : Threshold) (faces : ℕ) (regions : List Region) (links 
   pub each : (k : ℕ) → k < length regions → IsTrue (is_kept kept k) ↔ IsLeftAt t faces regions links k
 
 -- the regions that are kept, and the edges between them
-abbrev pub kept_regions : List Region → List Bool → List Region
-kept_regions regions kept = map (region_at regions) (filter (is_kept kept) (range_with_len 0 (length regions)))
+abbrev pub regions_left : List Region → List Bool → List Region
+regions_left regions kept = map (region_at regions) (filter (is_kept kept) (range_with_len 0 (length regions)))
 
-abbrev pub kept_edges : List Region → List Link → List Bool → List GraphEdge
-kept_edges regions links kept =
+abbrev pub edges_left : List Region → List Link → List Bool → List GraphEdge
+edges_left regions links kept =
     edges_by (name_at regions) (filter (λ l. is_kept kept l.a && is_kept kept l.b) links)

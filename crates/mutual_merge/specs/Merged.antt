@@ -71,8 +71,8 @@ pub record IsAppended (old : List Link) (link : Link) (new : List Link) : Type 0
   pub other : (front : List Link) (last : Link) → old ≡ front ++ last ∷ [] → (last.a ≢ link.a) ⊎ (last.b ≢ link.b)
   pub new_is : new ≡ old ++ link ∷ []
 
-abbrev pub IsJoined : List Link → Link → List Link → Type 0
-IsJoined old link new = JoinsLast old link new ⊎ IsAppended old link new
+abbrev pub IsJoinedLink : List Link → Link → List Link → Type 0
+IsJoinedLink old link new = JoinsLast old link new ⊎ IsAppended old link new
 
 -- links between the same regions are added up
 pub record AreJoined (links joined : List Link) : Type 0 where

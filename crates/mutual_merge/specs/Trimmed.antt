@@ -5,11 +5,11 @@ use Rattle.agglo_model.specs.RegionGraph.{Region}
 use Rattle.agglo_model.specs.Settling.{IsLeftOf}
 use Rattle.mutual_merge.specs.declared.links.Link.{Link}
 use Rattle.mutual_merge.specs.Linked.{AreLinked, link_edges, region_at, graph_of}
-use Rattle.mutual_merge.specs.Left.{is_kept, kept_regions}
+use Rattle.mutual_merge.specs.Left.{is_kept, regions_left}
 
 -- the regions that are kept, and for each of them its place among them
 pub record AreKept (regions : List Region) (kept : List Bool) (left : List Region) (places : List ℕ) : Type 0 where
-  pub regions_are : left ≡ kept_regions regions kept
+  pub regions_are : left ≡ regions_left regions kept
   pub few : length left ≤ length regions
   pub one_each : length places ≡ length regions
   pub inside : (k : ℕ) → k < length regions → is_kept kept k ≡ true → slice_index places k < length left

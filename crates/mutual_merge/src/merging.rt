@@ -7,7 +7,7 @@ ghost use Rattle.mutual_merge.specs.Merged.{
   AreMoved,
   AreMutual,
   AreSurvivors,
-  IsJoined,
+  IsJoinedLink,
   NoLater,
   key_of,
 };
@@ -129,7 +129,7 @@ fn join_links(alloc: Global, links: &[Link]) -> Result<Vec<Link>, Memory>
 /// the link.
 fn join(joined: &mut Vec<Link>, link: Link) -> Result<(), Memory>
     requires { link_edges joined.old.items + link.contact.count ≤ most_edges }
-    ensures { IfOk result (λ _. IsJoined joined.old.items link joined.new.items) }
+    ensures { IfOk result (λ _. IsJoinedLink joined.old.items link joined.new.items) }
 {
     let count = joined.len();
     if count > 0 && joined[count - 1].a == link.a && joined[count - 1].b == link.b {

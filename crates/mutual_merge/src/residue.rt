@@ -2,7 +2,7 @@ ghost use Rattle.std.specs.Prelude.{◌≡◌, ◌≤◌, All, IfOk, length};
 ghost use Rattle.agglo_model.specs.RegionGraph.{grid_edges};
 ghost use Rattle.agglo_model.specs.Settling.{IsLeftOf};
 ghost use Rattle.mutual_merge.specs.Linked.{AreLinked, IsLink, graph_of, link_edges};
-ghost use Rattle.mutual_merge.specs.Left.{AreHeldBack, AreLeft, KeepsReaching, kept_edges, kept_regions};
+ghost use Rattle.mutual_merge.specs.Left.{AreHeldBack, AreLeft, KeepsReaching, edges_left, regions_left};
 
 use crate::links::{Link, name_of};
 use crate::merging::LinkedGraph;
@@ -80,7 +80,7 @@ pub fn edges_among(
 ) -> Result<Vec<Edge>, Memory>
     requires inside { All (IsLink (length regions.now)) links.now }
     requires one_each { length kept.now ≡ length regions.now }
-    ensures { IfOk result (λ edges. edges.items ≡ kept_edges regions.now links.now kept.now) }
+    ensures { IfOk result (λ edges. edges.items ≡ edges_left regions.now links.now kept.now) }
 {
     let mut edges = Vec::new(alloc);
     for link in links {
@@ -100,7 +100,7 @@ pub fn edges_among(
 /// The regions that are kept.
 pub fn regions_of(alloc: Global, regions: &[Region], kept: &[bool]) -> Result<Vec<Region>, Memory>
     requires { length kept.now ≡ length regions.now }
-    ensures { IfOk result (λ left. left.items ≡ kept_regions regions.now kept.now) }
+    ensures { IfOk result (λ left. left.items ≡ regions_left regions.now kept.now) }
 {
     let mut left = Vec::new(alloc);
     for (place, region) in regions.iter().enumerate() {

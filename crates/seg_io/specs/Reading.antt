@@ -15,6 +15,6 @@ left_of files None = []
 left_of files (Some cursor) = drop cursor.at (bytes_at cursor.file files)
 
 -- the place is one in a file that there is
-abbrev pub IsPlace : List File → Option Cursor → Type 0
-IsPlace files None = Unit {0}
-IsPlace files (Some cursor) = (cursor.file < length files) × (cursor.at ≤ length (bytes_at cursor.file files))
+abbrev pub IsCursorIn : List File → Option Cursor → Type 0
+IsCursorIn files None = Unit {0}
+IsCursorIn files (Some cursor) = (cursor.file < length files) × (cursor.at ≤ length (bytes_at cursor.file files))

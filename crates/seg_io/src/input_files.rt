@@ -70,11 +70,11 @@ impl Model for InputFiles {
 
     ghost Value = { InputState };
 
-    ghost use Rattle.seg_io.specs.Reading.{is_open, left_of, IsPlace};
+    ghost use Rattle.seg_io.specs.Reading.{is_open, left_of, IsCursorIn};
 
     ghost view = { λ s. record { files = s.files.items; has_input = is_open s.input; left = left_of s.files.items s.input } };
 
-    ghost invariant = { λ s. IsPlace s.files.items s.input };
+    ghost invariant = { λ s. IsCursorIn s.files.items s.input };
 }
 
 impl InputFiles {

@@ -5,7 +5,7 @@ use Rattle.std.proofs.lemmas.Bool.{cases_lt}
 use Rattle.std.proofs.lemmas.List.{ext_get_or, get_or-set_same, get_or-set_other, map-append}
 use Rattle.std.proofs.lemmas.List.FromFn.{get_or-map-range_with_len, length-map-range_with_len, take-map-range_with_len}
 use Rattle.agglo_model.specs.Generated.{number_after, generated_byte}
-use Rattle.volume_file.specs.Generating.{AreHighs, IsAt, bytes_from}
+use Rattle.volume_file.specs.Generating.{AreHighs, StandsAt, bytes_from}
 use Rattle.volume_file.specs.declared.sequence.Sequence.{Sequence}
 use Rattle.volume_file.proofs.Rounds.{again, number_later, highs_fit, risen}
 
@@ -33,9 +33,9 @@ are_bytes first e high bytes long are each =
     ∙ sym (get_or-map-range_with_len (generated_byte first) e 65536 i (e + i) 0 inside refl))
 
 -- the lanes a turn later
-pub place_later : (first e : ℕ) (high rise later : List ℕ) → IsAt first e (record { high = high; rise = rise })
+pub place_later : (first e : ℕ) (high rise later : List ℕ) → StandsAt first e (record { high = high; rise = rise })
     → ((i : ℕ) → i < 65536 → get_or later i 0 ≡ (get_or high i 0 + get_or rise i 0) % 2 ^ 16)
-    → IsAt first (e + 65536) (record { high = later; rise = rise })
+    → StandsAt first (e + 65536) (record { high = later; rise = rise })
 place_later first e high rise later is each =
     let same = λ (i : ℕ) (inside : i < 65536). each i inside ∙ is.1 i inside in (
       λ i inside.
@@ -51,7 +51,7 @@ place_later first e high rise later is each =
 -- the lanes at the start
 pub first_place : (first last : ℕ) (high later rise : List ℕ) → AreHighs first 0 high → last ≡ number_after first 65536 → AreHighs last 0 later
     → ((i : ℕ) → i < 65536 → get_or rise i 0 ≡ (get_or later i 0 + 2 ^ 16 - get_or high i 0) % 2 ^ 16)
-    → IsAt first 0 (record { high = high; rise = rise })
+    → StandsAt first 0 (record { high = high; rise = rise })
 first_place first last high later rise are is are_later each = (
   are,
   λ i inside.
@@ -104,7 +104,7 @@ rest_appended first count k bytes body turns are so_far =
     ∙ ap (λ n. map (generated_byte first) (range_with_len 0 n)) all
 
 -- a turn of a sequence
-pub turned : (first k : ℕ) (now : Sequence) → IsAt first (65536 * k + 65536) now → IsAt first (65536 * (k + 1)) now
+pub turned : (first k : ℕ) (now : Sequence) → StandsAt first (65536 * k + 65536) now → StandsAt first (65536 * (k + 1)) now
 turned first k now is =
     let count : 65536 * k + 65536 ≡ 65536 * (k + 1) = omega arith in
-    subst (λ e. IsAt first e now) count is
+    subst (λ e. StandsAt first e now) count is

@@ -13,7 +13,7 @@ abbrev pub AreHighs : ℕ → ℕ → List ℕ → Type 0
 AreHighs first e high = (i : ℕ) → i < 65536 → get_or high i 0 ≡ number_after first (e + i + 1) / 2 ^ 16
 
 -- those bytes come next: the highest bits of their numbers, and what leads from each to the one a round later
-abbrev pub IsAt : ℕ → ℕ → Sequence → Type 0
-IsAt first e sequence = AreHighs first e sequence.high
+abbrev pub StandsAt : ℕ → ℕ → Sequence → Type 0
+StandsAt first e sequence = AreHighs first e sequence.high
     × ((i : ℕ) → i < 65536
     → (get_or sequence.high i 0 + get_or sequence.rise i 0) % 2 ^ 16 ≡ number_after first (e + i + 1 + 65536) / 2 ^ 16)

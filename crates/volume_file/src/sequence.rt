@@ -1,6 +1,6 @@
 ghost use Rattle.std.specs.Prelude.{◌≡◌, ℕ, ◌+◌, ◌-◌, ◌/◌, ◌%◌, ◌^◌, ◌<◌, get_or};
 ghost use Rattle.agglo_model.specs.Generated.{next_number, number_after};
-ghost use Rattle.volume_file.specs.Generating.{AreHighs, IsAt, bytes_from};
+ghost use Rattle.volume_file.specs.Generating.{AreHighs, StandsAt, bytes_from};
 
 /// The multiplier and the increment of the generator, as Press et al. give them in Numerical Recipes.
 const MULTIPLIER: u32 = 1_664_525;
@@ -22,7 +22,7 @@ pub struct Sequence {
 impl Sequence {
     /// The sequence of the numbers after `start`.
     pub fn after(start: u32) -> Sequence
-        ensures { IsAt start 0 result }
+        ensures { StandsAt start 0 result }
     {
         let (high, last) = next_highs(start);
         let (later, _) = next_highs(last);
@@ -32,8 +32,8 @@ impl Sequence {
 
     /// Fills the bytes with the highest eight bits of the next numbers.
     pub fn fill(&mut self, bytes: &mut [u8; LANES])
-        ensures place { (start e : ℕ) → IsAt start e self.old → IsAt start (e + 65536) self.new }
-        ensures bytes { (start e : ℕ) → IsAt start e self.old → bytes.new ≡ bytes_from start e }
+        ensures place { (start e : ℕ) → StandsAt start e self.old → StandsAt start (e + 65536) self.new }
+        ensures bytes { (start e : ℕ) → StandsAt start e self.old → bytes.new ≡ bytes_from start e }
     {
         for i in 0..LANES {
             bytes[i] = (self.high[i] >> 8) as u8;

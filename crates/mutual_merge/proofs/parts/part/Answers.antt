@@ -2,7 +2,7 @@ use Rattle.std.proofs.Common.{◌≡◌, ◌∙◌, List, Bool, sym, ap, subst, 
 use Rattle.std.specs.Prelude.{sum_by}
 use Rattle.agglo_model.specs.RegionGraph.{Region, GraphEdge, RegionGraph, IsGraph, IsWithinEdges}
 use Rattle.mutual_merge.specs.Linked.{graph_of}
-use Rattle.mutual_merge.specs.Left.{kept_edges, kept_regions}
+use Rattle.mutual_merge.specs.Left.{edges_left, regions_left}
 use Rattle.mutual_merge.specs.Parts.{AreMarked, IsParted, awake_edges}
 use Rattle.mutual_merge.proofs.LeftGraphs.{IsGraph-left, IsWithinEdges-left}
 use Rattle.mutual_merge.proofs.PartPlaces.{awake_is, awake_edges-within, part_edges, parted}
@@ -13,13 +13,13 @@ abbrev graph_made : List Region → List GraphEdge → RegionGraph
 graph_made regions edges = record { regions = regions; edges = edges }
 
 -- the part that is laid aside
-same_aside : (c : In_ok-others) → graph_made (kept_regions c.args.graph.now.regions.items c.args.rest.now)
-    (kept_edges c.args.graph.now.regions.items c.args.graph.now.links.items c.args.rest.now)
+same_aside : (c : In_ok-others) → graph_made (regions_left c.args.graph.now.regions.items c.args.rest.now)
+    (edges_left c.args.graph.now.regions.items c.args.graph.now.links.items c.args.rest.now)
     ≡ graph_made c.in_ok-still.still.items c.in_ok-among.among.items
 same_aside c =
     let rest : List Bool = c.args.rest.now in
-    let regions = (λ i. kept_regions (sym c.deref.ensures.value i) rest) ∙ sym c.in_ok-still.ensures in
-    let edges = (λ i. kept_edges (sym c.deref-2.ensures.value i) (sym c.deref-3.ensures.value i) rest) ∙ sym c.in_ok-among.ensures in
+    let regions = (λ i. regions_left (sym c.deref.ensures.value i) rest) ∙ sym c.in_ok-still.ensures in
+    let edges = (λ i. edges_left (sym c.deref-2.ensures.value i) (sym c.deref-3.ensures.value i) rest) ∙ sym c.in_ok-among.ensures in
     λ i. record { regions = regions i; edges = edges i }
 
 -- the awake part
@@ -61,8 +61,8 @@ returns-clause-parted c =
     subst (λ g. IsParted c.args.frozen (graph_of c.args.graph.now.regions.items c.args.graph.now.links.items) g c.of-2.result)
     (same_aside made ∙ sym c.of.ensures)
     (subst (IsParted c.args.frozen (graph_of c.args.graph.now.regions.items c.args.graph.now.links.items)
-    (graph_made (kept_regions c.args.graph.now.regions.items c.args.rest.now)
-    (kept_edges c.args.graph.now.regions.items c.args.graph.now.links.items c.args.rest.now)))
+    (graph_made (regions_left c.args.graph.now.regions.items c.args.rest.now)
+    (edges_left c.args.graph.now.regions.items c.args.graph.now.links.items c.args.rest.now)))
     (same_awake made ∙ sym c.of-2.ensures)
     (parted c.args.frozen c.args.graph.now.regions.items c.args.graph.now.links.items c.args.rest.now c.in_ok-marked.marked.items
     c.requires.linked c.requires.rest (are_marked made) c.requires.some_face))

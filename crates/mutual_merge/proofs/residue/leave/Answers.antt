@@ -4,8 +4,8 @@ use Rattle.agglo_model.specs.RegionGraph.{Region, GraphEdge, RegionGraph, IsGrap
 use Rattle.agglo_model.specs.Settling.{IsLeftOf}
 use Rattle.mutual_merge.specs.declared.links.Link.{Link}
 use Rattle.mutual_merge.specs.Linked.{graph_of}
-use Rattle.mutual_merge.specs.Left.{AreLeft, kept_edges, kept_regions}
-use Rattle.mutual_merge.proofs.LeftGraphs.{kept_edges-fewer, IsGraph-left, IsWithinEdges-left, IsLeftOf-left}
+use Rattle.mutual_merge.specs.Left.{AreLeft, edges_left, regions_left}
+use Rattle.mutual_merge.proofs.LeftGraphs.{edges_left-fewer, IsGraph-left, IsWithinEdges-left, IsLeftOf-left}
 use Rattle.mutual_merge.proofs.residue.leave.Goals as goal
 use Rattle.mutual_merge.proofs.residue.leave.Goals.{In_ok-regions}
 
@@ -17,7 +17,7 @@ are_left c =
 
 -- the graph of the regions that are kept
 abbrev kept_graph : List Region → List Link → List Bool → RegionGraph
-kept_graph regions links kept = record { regions = kept_regions regions kept; edges = kept_edges regions links kept }
+kept_graph regions links kept = record { regions = regions_left regions kept; edges = edges_left regions links kept }
 
 abbrev graph_made : List Region → List GraphEdge → RegionGraph
 graph_made regions edges = record { regions = regions; edges = edges }
@@ -26,10 +26,10 @@ same_graph : (c : In_ok-regions) → kept_graph c.args.settled.regions.items c.a
     ≡ graph_made c.in_ok-regions.regions.items c.in_ok-edges.edges.items
 same_graph c =
     let kept : List Bool = c.in_ok-kept.kept.items in
-    let regions : kept_regions c.args.settled.regions.items kept ≡ c.in_ok-regions.regions.items =
-    (λ i. kept_regions (sym c.deref-6.ensures.value i) (sym c.deref-7.ensures.value i)) ∙ sym c.in_ok-regions.ensures in
-    let edges : kept_edges c.args.settled.regions.items c.args.settled.links.items kept ≡ c.in_ok-edges.edges.items =
-    (λ i. kept_edges (sym c.deref-3.ensures.value i) (sym c.deref-4.ensures.value i) (sym c.deref-5.ensures.value i)) ∙ sym c.in_ok-edges.ensures in
+    let regions : regions_left c.args.settled.regions.items kept ≡ c.in_ok-regions.regions.items =
+    (λ i. regions_left (sym c.deref-6.ensures.value i) (sym c.deref-7.ensures.value i)) ∙ sym c.in_ok-regions.ensures in
+    let edges : edges_left c.args.settled.regions.items c.args.settled.links.items kept ≡ c.in_ok-edges.edges.items =
+    (λ i. edges_left (sym c.deref-3.ensures.value i) (sym c.deref-4.ensures.value i) (sym c.deref-5.ensures.value i)) ∙ sym c.in_ok-edges.ensures in
     λ i. record { regions = regions i; edges = edges i }
 
 pub of-requires-clause-graph : goal.of-requires-clause-graph
@@ -54,5 +54,5 @@ pub returns-clause-fewer : goal.returns-clause-fewer
 returns-clause-fewer c =
     let made = (goal.at.returns-clause-fewer c).In_ok-regions in
     let same = ap (λ g. sum_by (λ e. e.contact.count) g.edges) (same_graph made ∙ sym c.of.ensures) in
-    let least = kept_edges-fewer c.args.settled.regions.items c.args.settled.links.items c.in_ok-kept.kept.items in
+    let least = edges_left-fewer c.args.settled.regions.items c.args.settled.links.items c.in_ok-kept.kept.items in
     omega (arith, same, least)
