@@ -1,18 +1,8 @@
-use crate::{CallKind, Desk, Failed, MemoryDesk, PIECE_LENGTH, Piecer, Port, Side, fill, put_all};
-use std::alloc::Global;
-use std::process::Abort;
-
-/// A desk with room for so many bytes and one file, `in`.
-fn desk_with(rt: &impl Abort, alloc: Global, room: usize, file: &[u8]) -> MemoryDesk {
-    let mut desk = MemoryDesk::new(alloc, room).expect(rt, "memory");
-    desk.add_file("in", file).expect(rt, "memory");
-    desk
-}
-
-/// Tells a call to fail.
-fn fail_call(rt: &impl Abort, desk: &mut MemoryDesk, kind: CallKind, nth: u64) {
-    desk.fail_call(kind, nth).expect(rt, "memory");
-}
+use crate::{
+    CallKind, Desk, Failed, MemoryDesk, Piecer, Port, Side, fill, put_all, u32_at, u64_at,
+};
+use std::alloc::{AllocError, Global};
+use std::test::Fail;
 
 /// Opens the file `in` and fills the buffer from it.
 fn fill_from_file(desk: &mut MemoryDesk, buffer: &mut [u8]) -> Result<usize, Failed> {
@@ -20,15 +10,45 @@ fn fill_from_file(desk: &mut MemoryDesk, buffer: &mut [u8]) -> Result<usize, Fai
     fill(desk, buffer)
 }
 
-/// Opens the file `in`, replaces it, and fills the buffer from the input.
-fn fill_from_replaced(
-    rt: &impl Abort,
-    desk: &mut MemoryDesk,
-    buffer: &mut [u8],
-) -> Result<usize, Failed> {
-    desk.open_in("in")?;
-    desk.add_file("in", b"newer").expect(rt, "memory");
-    fill(desk, buffer)
+/// What such a call answers, and what it leaves of a buffer of zeros, of the input and of the count of faults.
+fn filled(alloc: Global, desk: &mut MemoryDesk) -> Result<String, AllocError> {
+    let mut buffer = [0; 5];
+    let answer = fill_from_file(desk, &mut buffer);
+    let left = desk.left();
+    let faults = desk.faults(Side::Input);
+    format!(in alloc; "{answer:?} {buffer:?}, left {left}, faults {faults}\n")
+}
+
+/// Fills the buffer four times by reads of two bytes. The second opening and the fifth read fail.
+fn fills(alloc: Global, desk: &mut MemoryDesk) -> Result<String, Fail> {
+    desk.add_file("in", b"abc")?;
+    desk.fail_call(CallKind::OpenIn, 2)?;
+    desk.fail_call(CallKind::Read, 5)?;
+    desk.at_most(2);
+    let mut told = String::new(alloc);
+    for _ in 0..4 {
+        told.push_str(filled(alloc, desk)?.as_str())?;
+    }
+    Ok(told)
+}
+
+/// What the call answers, and what stands on the port and in the count of faults then.
+fn put(alloc: Global, desk: &mut MemoryDesk, bytes: &[u8]) -> Result<String, AllocError> {
+    let answer = put_all(desk, Port::Trouble, bytes);
+    let written = desk.written(Port::Trouble);
+    let faults = desk.faults(Side::Trouble);
+    format!(in alloc; "{answer:?} {written:?}, faults {faults}\n")
+}
+
+/// Puts bytes by writes of one, of which the second fails.
+fn puts(alloc: Global, desk: &mut MemoryDesk) -> Result<String, Fail> {
+    desk.fail_call(CallKind::Write(Port::Trouble), 2)?;
+    desk.at_most(1);
+    let mut told = String::new(alloc);
+    for text in "xyz abc de".split(' ') {
+        told.push_str(put(alloc, desk, text.as_bytes())?.as_str())?;
+    }
+    Ok(told)
 }
 
 /// Puts the bytes twice and finishes.
@@ -39,132 +59,97 @@ fn put_twice(desk: &mut MemoryDesk, bytes: &[u8]) -> Result<(), Failed> {
     piecer.finish(desk)
 }
 
-fn sevens(rt: &impl Abort, alloc: Global, length: usize) -> Vec<u8> {
-    Vec::from_elem(alloc, 7, length).expect(rt, "memory")
+/// What putting 16,000 bytes twice answers where this write fails, and how many bytes were written.
+fn pieces(alloc: Global, desk: &mut MemoryDesk, failing: u64) -> Result<String, Fail> {
+    desk.fail_call(CallKind::Write(Port::Note), failing)?;
+    let bytes = Vec::from_elem(alloc, 7, 16_000)?;
+    let answer = put_twice(desk, &bytes);
+    let length = desk.written(Port::Note).len();
+    Ok(format!(in alloc; "{answer:?} {length}")?)
 }
 
-fn is_same(bytes: &[u8], others: &[u8]) -> bool {
-    bytes == others
+/// What is told of the ports, and what opening one of them answered.
+fn ports(alloc: Global, desk: &MemoryDesk, answer: Result<(), Failed>) -> Result<String, Fail> {
+    let labels = desk.opened_name(Port::Labels);
+    let tree = desk.opened_name(Port::Tree);
+    let opened = desk.opened();
+    Ok(format!(in alloc; "{answer:?}, opened {opened}: {labels:?}, {tree:?}")?)
 }
 
-fn holds(desk: &MemoryDesk, port: Port, bytes: &[u8]) -> bool {
-    desk.written(port) == bytes
+// A desk is let go at one place alone of each function that makes one: with each `?` after it the proof takes
+// longer, and the work is done on a desk that was lent.
+
+fn fills_on_a_desk(alloc: Global) -> Result<String, Fail> {
+    let mut desk = MemoryDesk::new(alloc, 0)?;
+    fills(alloc, &mut desk)
 }
 
-fn has_name(desk: &MemoryDesk, port: Port, name: Option<&str>) -> bool {
-    desk.opened_name(port) == name
+fn puts_on_a_desk(alloc: Global) -> Result<String, Fail> {
+    let mut desk = MemoryDesk::new(alloc, 5)?;
+    puts(alloc, &mut desk)
 }
 
-fn put_note(desk: &mut MemoryDesk, bytes: &[u8]) -> Result<(), Failed> {
-    put_all(desk, Port::Note, bytes)
+fn pieces_on_a_desk(alloc: Global, failing: u64) -> Result<String, Fail> {
+    let mut desk = MemoryDesk::new(alloc, 40_000)?;
+    pieces(alloc, &mut desk, failing)
 }
 
-fn put_trouble(desk: &mut MemoryDesk, bytes: &[u8]) -> Result<(), Failed> {
-    put_all(desk, Port::Trouble, bytes)
-}
-
-#[test]
-fn fill_goes_on_after_a_short_read(rt: HostRuntime) {
-    let mut desk = desk_with(&rt, rt.alloc(), 0, b"abc");
-    desk.at_most(2);
-    let mut buffer = [0; 5];
-    assert_eq!(rt; fill_from_file(&mut desk, &mut buffer), Ok(3));
-    assert!(rt; is_same(&buffer, b"abc\0\0"));
-    assert_eq!(rt; desk.left(), 0);
-}
-
-#[test]
-fn a_file_that_is_replaced_stays_the_input(rt: HostRuntime) {
-    let mut desk = desk_with(&rt, rt.alloc(), 0, b"old");
-    let mut buffer = [0; 5];
-    assert_eq!(rt; fill_from_replaced(&rt, &mut desk, &mut buffer), Ok(3));
-    assert!(rt; is_same(&buffer, b"old\0\0"));
-    assert_eq!(rt; fill_from_file(&mut desk, &mut buffer), Ok(5));
-    assert!(rt; is_same(&buffer, b"newer"));
+fn ports_of_a_desk(alloc: Global) -> Result<String, Fail> {
+    let mut desk = MemoryDesk::new(alloc, 4)?;
+    let answer = desk.open_out(Port::Tree, "tree");
+    ports(alloc, &desk, answer)
 }
 
 #[test]
-fn only_the_told_opening_fails(rt: HostRuntime) {
-    let mut desk = desk_with(&rt, rt.alloc(), 0, b"abc");
-    fail_call(&rt, &mut desk, CallKind::OpenIn, 2);
-    let mut buffer = [0; 3];
-    assert_eq!(rt; fill_from_file(&mut desk, &mut buffer), Ok(3));
-    assert_eq!(rt; fill_from_file(&mut desk, &mut buffer), Err(Failed));
-    assert_eq!(rt; fill_from_file(&mut desk, &mut buffer), Ok(3));
-    assert_eq!(rt; desk.faults(Side::Input), 1);
+fn only_the_told_openings_and_reads_fail(rt: HostRuntime) -> Result<(), Fail> {
+    let told = fills_on_a_desk(rt.alloc())?;
+    assert_eq!(rt;
+        told.as_str(),
+        "\
+Ok(3) [97, 98, 99, 0, 0], left 0, faults 0
+Err(Failed) [0, 0, 0, 0, 0], left 0, faults 1
+Err(Failed) [97, 98, 0, 0, 0], left 1, faults 2
+Ok(3) [97, 98, 99, 0, 0], left 0, faults 2
+"
+    );
+    Ok(())
 }
 
 #[test]
-fn only_the_told_read_fails(rt: HostRuntime) {
-    let mut desk = desk_with(&rt, rt.alloc(), 0, b"abc");
-    fail_call(&rt, &mut desk, CallKind::Read, 1);
-    let mut buffer = [0; 3];
-    assert_eq!(rt; fill_from_file(&mut desk, &mut buffer), Err(Failed));
-    assert_eq!(rt; desk.left(), 3);
-    assert_eq!(rt; fill_from_file(&mut desk, &mut buffer), Ok(3));
-    assert_eq!(rt; desk.faults(Side::Input), 1);
+fn the_told_write_fails_and_that_with_no_room(rt: HostRuntime) -> Result<(), Fail> {
+    let told = puts_on_a_desk(rt.alloc())?;
+    assert_eq!(rt;
+        told.as_str(),
+        "\
+Err(Failed) [120], faults 1
+Ok(()) [120, 97, 98, 99], faults 1
+Err(Failed) [120, 97, 98, 99, 100], faults 2
+"
+    );
+    Ok(())
 }
 
 #[test]
-fn a_name_that_no_file_has_is_a_fault(rt: HostRuntime) {
-    let mut desk = desk_with(&rt, rt.alloc(), 0, b"abc");
-    assert_eq!(rt; desk.open_in("other"), Err(Failed));
-    assert_eq!(rt; desk.faults(Side::Input), 1);
-    assert_eq!(rt; desk.faults(Side::Output), 0);
+fn pieces_are_whole_but_for_the_last(rt: HostRuntime) -> Result<(), Fail> {
+    let told = pieces_on_a_desk(rt.alloc(), 2)?;
+    assert_eq!(rt; told.as_str(), "Err(Failed) 16384");
+    let told = pieces_on_a_desk(rt.alloc(), 3)?;
+    assert_eq!(rt; told.as_str(), "Ok(()) 32000", "two writes");
+    Ok(())
 }
 
 #[test]
-fn a_full_port_refuses_the_rest(rt: HostRuntime) {
-    let mut desk = desk_with(&rt, rt.alloc(), 3, b"");
-    assert_eq!(rt; put_note(&mut desk, b"abcde"), Err(Failed));
-    assert!(rt; holds(&desk, Port::Note, b"abc"));
-    assert_eq!(rt; desk.faults(Side::Output), 1);
-    assert_eq!(rt; desk.faults(Side::Trouble), 0);
+fn a_port_has_the_name_that_it_was_opened_under(rt: HostRuntime) -> Result<(), Fail> {
+    let told = ports_of_a_desk(rt.alloc())?;
+    assert_eq!(rt; told.as_str(), "Ok(()), opened 1: None, Some(\"tree\")");
+    Ok(())
 }
 
 #[test]
-fn only_the_told_write_fails(rt: HostRuntime) {
-    let mut desk = desk_with(&rt, rt.alloc(), 8, b"");
-    fail_call(&rt, &mut desk, CallKind::Write(Port::Trouble), 2);
-    desk.at_most(1);
-    assert_eq!(rt; put_trouble(&mut desk, b"xyz"), Err(Failed));
-    assert_eq!(rt; put_trouble(&mut desk, b"abc"), Ok(()));
-    assert!(rt; holds(&desk, Port::Trouble, b"xabc"));
-    assert_eq!(rt; desk.faults(Side::Trouble), 1);
-}
-
-#[test]
-fn a_port_has_the_name_that_it_was_opened_under(rt: HostRuntime) {
-    let mut desk = MemoryDesk::new(rt.alloc(), 4).expect(&rt, "memory");
-    desk.open_out(Port::Tree, "tree").expect(&rt, "a port");
-    assert!(rt; has_name(&desk, Port::Tree, Some("tree")));
-    assert!(rt; has_name(&desk, Port::Labels, None));
-    assert_eq!(rt; desk.opened(), 1);
-}
-
-#[test]
-fn a_name_that_is_too_long_opens_nothing(rt: HostRuntime) {
-    let mut desk = MemoryDesk::new(rt.alloc(), 4).expect(&rt, "memory");
-    assert_eq!(rt; desk.open_out(Port::Labels, "label"), Err(Failed));
-    assert_eq!(rt; desk.opened(), 0);
-    assert_eq!(rt; desk.faults(Side::Output), 1);
-}
-
-#[test]
-fn pieces_are_whole_but_for_the_last(rt: HostRuntime) {
-    let mut desk = desk_with(&rt, rt.alloc(), 40_000, b"");
-    fail_call(&rt, &mut desk, CallKind::Write(Port::Note), 3);
-    let bytes = sevens(&rt, rt.alloc(), 16_000);
-    assert_eq!(rt; put_twice(&mut desk, bytes.as_slice()), Ok(()));
-    assert_eq!(rt; desk.written(Port::Note).len(), 32_000);
-}
-
-#[test]
-fn a_second_piece_that_fails_leaves_the_first(rt: HostRuntime) {
-    let mut desk = desk_with(&rt, rt.alloc(), 40_000, b"");
-    fail_call(&rt, &mut desk, CallKind::Write(Port::Note), 2);
-    let bytes = sevens(&rt, rt.alloc(), 16_400);
-    assert_eq!(rt; put_twice(&mut desk, bytes.as_slice()), Err(Failed));
-    let piece = sevens(&rt, rt.alloc(), PIECE_LENGTH);
-    assert!(rt; holds(&desk, Port::Note, piece.as_slice()));
+fn numbers_stand_lowest_byte_first(rt: HostRuntime) {
+    assert_eq!(rt; u32_at(b"\0\x04\x03\x02\x01", 1), 0x0102_0304);
+    assert_eq!(rt;
+        u64_at(b"\0\x08\x07\x06\x05\x04\x03\x02\x01", 1),
+        0x0102_0304_0506_0708
+    );
 }
