@@ -1,41 +1,31 @@
 use crate::{Job, WordsFault, read_words};
 use mean_fraction::Threshold;
-use std::alloc::{AllocError, Global};
-
-#[derive(Debug, Drop)]
-enum Trouble {
-    Alloc(AllocError),
-    Words(WordsFault),
-    OtherJob,
-}
+use std::alloc::Global;
+use std::test::Fail;
 
 /// What the words of this line ask for, with a space between two words.
-fn read(alloc: Global, line: &str) -> Result<Result<Job, WordsFault>, Trouble> {
+fn read(alloc: Global, line: &str) -> Result<Result<Job, WordsFault>, Fail> {
     let mut words = Vec::new(alloc);
     for word in line.split(' ') {
-        let text = String::from_str(alloc, word).map_err(Trouble::Alloc)?;
-        words
-            .push(text)
-            .map_err(AllocError::from)
-            .map_err(Trouble::Alloc)?;
+        words.push(String::from_str(alloc, word)?)?;
     }
     Ok(read_words(alloc, &words))
 }
 
 /// The names and the number that these words of `basins` give.
-fn read_basins(alloc: Global, line: &str) -> Result<(String, String, u8), Trouble> {
-    match read(alloc, line)?.map_err(Trouble::Words)? {
+fn read_basins(alloc: Global, line: &str) -> Result<(String, String, u8), Fail> {
+    match read(alloc, line)?? {
         Job::Basins {
             volume,
             labels,
             low,
         } => Ok((volume, labels, low)),
-        _ => Err(Trouble::OtherJob),
+        _ => Err("another job".into()),
     }
 }
 
 #[test]
-fn options_stand_in_any_order_and_form(rt: HostRuntime) -> Result<(), Trouble> {
+fn options_stand_in_any_order_and_form(rt: HostRuntime) -> Result<(), Fail> {
     let line = "basins --low=007 --labels l --volume=a=b";
     let (volume, labels, low) = read_basins(rt.alloc(), line)?;
     assert!(rt; volume.as_str() == "a=b");
@@ -56,8 +46,8 @@ struct Given {
     workers: u32,
 }
 
-fn read_segment(alloc: Global, line: &str) -> Result<Given, Trouble> {
-    match read(alloc, line)?.map_err(Trouble::Words)? {
+fn read_segment(alloc: Global, line: &str) -> Result<Given, Fail> {
+    match read(alloc, line)?? {
         Job::Segment {
             volume,
             labels,
@@ -75,12 +65,12 @@ fn read_segment(alloc: Global, line: &str) -> Result<Given, Trouble> {
             chunk,
             workers,
         }),
-        _ => Err(Trouble::OtherJob),
+        _ => Err("another job".into()),
     }
 }
 
 #[test]
-fn options_of_segment_stand_in_any_order_and_form(rt: HostRuntime) -> Result<(), Trouble> {
+fn options_of_segment_stand_in_any_order_and_form(rt: HostRuntime) -> Result<(), Fail> {
     let line =
         "segment --workers 32 --chunk=64,065,7 --merge 3/8 --tree=t --volume v=w --low=255 --labels=l";
     let given = read_segment(rt.alloc(), line)?;
@@ -96,21 +86,21 @@ fn options_of_segment_stand_in_any_order_and_form(rt: HostRuntime) -> Result<(),
 }
 
 /// The name that these words of `make` give, and the start and the axes.
-fn read_make(alloc: Global, line: &str) -> Result<(String, [u32; 4]), Trouble> {
-    match read(alloc, line)?.map_err(Trouble::Words)? {
+fn read_make(alloc: Global, line: &str) -> Result<(String, [u32; 4]), Fail> {
+    match read(alloc, line)?? {
         Job::Make {
             volume,
             start,
             dims,
         } => Ok((volume, [start, dims.nx(), dims.ny(), dims.nz()])),
-        _ => Err(Trouble::OtherJob),
+        _ => Err("another job".into()),
     }
 }
 
 /// What these words of `trial` give: the start, the axes, `low`, the threshold, the sizes of leaves
 /// and the workers.
-fn read_trial(alloc: Global, line: &str) -> Result<[u32; 11], Trouble> {
-    match read(alloc, line)?.map_err(Trouble::Words)? {
+fn read_trial(alloc: Global, line: &str) -> Result<[u32; 11], Fail> {
+    match read(alloc, line)?? {
         Job::Trial {
             start,
             dims,
@@ -125,12 +115,12 @@ fn read_trial(alloc: Global, line: &str) -> Result<[u32; 11], Trouble> {
             let (p, q) = (threshold.p(), threshold.q());
             Ok([start, nx, ny, nz, low, p, q, x, y, z, workers])
         }
-        _ => Err(Trouble::OtherJob),
+        _ => Err("another job".into()),
     }
 }
 
 #[test]
-fn options_of_make_and_trial_give_numbers_and_axes(rt: HostRuntime) -> Result<(), Trouble> {
+fn options_of_make_and_trial_give_numbers_and_axes(rt: HostRuntime) -> Result<(), Fail> {
     let line = "make --dims=65535,4096,1 --volume v --start=4294967295";
     let (volume, numbers) = read_make(rt.alloc(), line)?;
     assert!(rt; volume.as_str() == "v");
@@ -143,7 +133,7 @@ fn options_of_make_and_trial_give_numbers_and_axes(rt: HostRuntime) -> Result<()
 }
 
 /// How many of these lines are no settings.
-fn count_refused(alloc: Global, lines: &[&str]) -> Result<u32, Trouble> {
+fn count_refused(alloc: Global, lines: &[&str]) -> Result<u32, Fail> {
     let mut count = 0u32;
     for line in lines {
         if let Err(WordsFault::NoSettings) = read(alloc, line)? {
@@ -180,7 +170,7 @@ static FAULTY: [&str; 22] = [
 ];
 
 #[test]
-fn words_that_are_no_settings_are_refused(rt: HostRuntime) -> Result<(), Trouble> {
+fn words_that_are_no_settings_are_refused(rt: HostRuntime) -> Result<(), Fail> {
     let alloc = rt.alloc();
     assert!(rt; matches!(read_words(alloc, &[]), Err(WordsFault::NoSettings)));
     assert_eq!(rt; count_refused(alloc, &FAULTY)?, 22);
