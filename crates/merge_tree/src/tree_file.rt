@@ -7,11 +7,10 @@ ghost use Rattle.seg_io.specs.Piecing.{Puts, FailsToPut};
 
 use crate::merge::Merge;
 use crate::tree::Tree;
+use crate::tree_reading::MAGIC;
+use crate::tree_records::RECORD_LENGTH;
 use byteorder::{ByteOrder, LittleEndian};
 use seg_io::{Desk, Failed, HEADER_LENGTH, Piecer, Port};
-
-/// The length of a merge's record in bytes.
-const RECORD_LENGTH: usize = 32;
 
 /// How many merges are turned into bytes at a time.
 const BLOCK_MERGES: usize = 512;
@@ -40,7 +39,7 @@ fn header(tree: &Tree) -> [u8; HEADER_LENGTH]
     let dims = tree.dims();
     let threshold = tree.threshold();
     let mut bytes = [0; HEADER_LENGTH];
-    bytes[..8].copy_from_slice(b"AFFTRE01");
+    bytes[..8].copy_from_slice(MAGIC);
     LittleEndian::write_u32(&mut bytes[8..], dims.nx());
     LittleEndian::write_u32(&mut bytes[12..], dims.ny());
     LittleEndian::write_u32(&mut bytes[16..], dims.nz());

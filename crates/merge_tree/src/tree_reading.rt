@@ -15,7 +15,7 @@ use seg_io::{Desk, HEADER_LENGTH, fill, u32_at};
 use std::alloc::Global;
 
 /// The text that a tree file begins with.
-const MAGIC: &[u8] = b"AFFTRE01";
+pub const MAGIC: &[u8] = b"AFFTRE01";
 
 /// Reads a tree file to its end: the header, then the records. Answers the first fault of the file,
 /// `Read` or `Memory`.

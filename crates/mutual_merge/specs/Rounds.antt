@@ -1,10 +1,12 @@
 -- What rounds of merges make of a graph.
-use Rattle.std.specs.Prelude.{ℕ, ◌≢◌, ◌≤◌, ◌++◌, Bool, IsTrue, List}
+use Rattle.std.specs.Prelude.{ℕ, ◌≡◌, ◌≢◌, ◌≤◌, ◌++◌, Bool, List}
 use Rattle.agglo_model.specs.PairOrder.{Threshold}
 use Rattle.agglo_model.specs.Greedy.{Merge}
 use Rattle.agglo_model.specs.RegionGraph.{Region, GraphEdge, RegionGraph}
 use Rattle.agglo_model.specs.Settling.{IsReciprocalEdge, Settles}
 use Rattle.mutual_merge.specs.declared.links.Link.{Link}
+use Rattle.mutual_merge.specs.declared.settling.Parting.{Parting}
+use Rattle.mutual_merge.specs.declared.settling.Parting.TheVariants.{WhereMostRest}
 use Rattle.mutual_merge.specs.Linked.{AreLinked, graph_of, link_edges}
 use Rattle.mutual_merge.specs.Parts.{MayRest}
 
@@ -24,7 +26,7 @@ abbrev pub IsSettled : Threshold → ℕ → List Region → List Link → Type 
 IsSettled t faces regions links = (e : GraphEdge) → ¬ (IsReciprocalEdge t faces (graph_of regions links) e)
 
 -- a part may be made of the graph, where that was asked for: some face holds regions back, and those that it holds back rest
-pub record MayBeParted (faces : ℕ) (by_parts : Bool) (regions : List Region) (rest : List Bool) : Type 0 where
-  pub asked : IsTrue by_parts
+pub record MayBeParted (faces : ℕ) (parting : Parting) (regions : List Region) (rest : List Bool) : Type 0 where
+  pub asked : parting ≡ WhereMostRest
   pub some_face : faces ≢ 0
   pub rest_is : MayRest faces regions rest

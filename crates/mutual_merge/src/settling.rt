@@ -34,6 +34,13 @@ struct Progress {
     resting: Option<Vec<bool>>,
 }
 
+/// Whether a part of a graph may be settled by itself.
+#[derive(Clone, Copy, PartialEq)]
+enum Parting {
+    Never,
+    WhereMostRest,
+}
+
 /// Merges the reciprocal pairs of a graph until there is none, but for regions that touch one of the faces
 /// `frozen`. Where there is no memory, the graph is given up.
 ///
@@ -52,7 +59,7 @@ pub fn settle(
         graph,
         mut merges,
         resting,
-    } = merge_rounds(alloc, start, threshold, frozen, true)?;
+    } = merge_rounds(alloc, start, threshold, frozen, Parting::WhereMostRest)?;
     let Some(rest) = resting else {
         let residue = leave(alloc, graph, threshold, frozen)?;
         return Ok(Settled { residue, merges });
@@ -80,7 +87,7 @@ fn settle_whole(
     ensures fewer { IfOk result (λ settled. grid_edges settled.residue ≤ grid_edges graph) }
 {
     let start = linked(alloc, graph)?;
-    let progress = merge_rounds(alloc, start, threshold, frozen, false)?;
+    let progress = merge_rounds(alloc, start, threshold, frozen, Parting::Never)?;
     let residue = leave(alloc, progress.graph, threshold, frozen)?;
     Ok(Settled {
         residue,
@@ -101,14 +108,14 @@ fn linked(alloc: Global, graph: Graph) -> Result<LinkedGraph, Memory>
     })
 }
 
-/// Merges reciprocal pairs in rounds until there is none, or, `by_parts`, until one is to be made. Regions that no merge takes
-/// any more are let go before each round, so that a round looks at the others alone.
+/// Merges reciprocal pairs in rounds until there is none, or until a part is to be settled by itself. Regions that
+/// no merge takes any more are let go before each round, so that a round looks at the others alone.
 fn merge_rounds(
     alloc: Global,
     start: LinkedGraph,
     threshold: &Threshold,
     frozen: u8,
-    by_parts: bool,
+    parting: Parting,
 ) -> Result<Progress, Memory>
     requires { AreLinked start.regions.items start.links.items }
     ensures merged { IfOk result (λ progress. HasMerged threshold.now frozen start.regions.items start.links.items
@@ -116,7 +123,7 @@ fn merge_rounds(
     ensures settled { IfOk result (λ progress. IsNone progress.resting → IsSettled threshold.now frozen
         progress.graph.regions.items progress.graph.links.items) }
     ensures parted { IfOk result (λ progress. IfSome progress.resting (λ rest.
-        MayBeParted frozen by_parts progress.graph.regions.items rest.items)) }
+        MayBeParted frozen parting progress.graph.regions.items rest.items)) }
 {
     let mut graph = start;
     let mut merges = Vec::new(alloc);
@@ -139,7 +146,7 @@ fn merge_rounds(
                 resting,
             });
         }
-        if by_parts {
+        if parting == Parting::WhereMostRest {
             let resting = find_resting(alloc, &graph, &firsts, &pairing.pairs, frozen)?;
             if resting.is_some() {
                 return Ok(Progress {

@@ -1,9 +1,9 @@
-use Rattle.std.proofs.Common.{Option, Some, None, refl, ap, subst, arith}
+use Rattle.std.proofs.Common.{rules, ◌≢◌, Option, Some, None, refl, ap, subst, arith}
 use Rattle.std.specs.Prelude.{IsNone, IfSome}
-use Rattle.std.proofs.lemmas.Bool.{false≢true}
 use Rattle.agglo_model.specs.RegionGraph.{grid_edges}
 use Rattle.agglo_model.specs.Settling.{Settles}
 use Rattle.mutual_merge.specs.Linked.{graph_of}
+use Rattle.mutual_merge.specs.declared.settling.Parting.TheVariants.{Never, WhereMostRest}
 use Rattle.mutual_merge.proofs.LinkedEdges.{same_sums}
 use Rattle.mutual_merge.proofs.TrimmedGraphs.{carries_end}
 use Rattle.mutual_merge.specs.Linked.{name_at}
@@ -14,6 +14,9 @@ nothing : {X : Type 0} (P : X → Type 0) (found : Option X) → IfSome found P 
 nothing P None known no_value = refl
 nothing P (Some x) known no_value = absurd (no_value x known)
 
+never_parts : Never ≢ WhereMostRest
+never_parts same = search rules
+
 pub returns-clause-settles : goal.returns-clause-settles
 returns-clause-settles c =
     let start = c.in_ok-start.start in
@@ -22,7 +25,7 @@ returns-clause-settles c =
     subst (λ g. Settles c.args.threshold.now c.args.frozen g progress.merges.items c.in_ok-residue.residue) c.in_ok-start.ensures.same
     (carries_end c.args.threshold.now c.args.frozen (graph_of start.regions.items start.links.items)
     (graph_of progress.graph.regions.items progress.graph.links.items) c.in_ok-residue.residue progress.merges.items merged.carries
-    (c.in_ok-progress.ensures.settled (nothing _ progress.resting c.in_ok-progress.ensures.parted (λ rest may. false≢true may.asked)))
+    (c.in_ok-progress.ensures.settled (nothing _ progress.resting c.in_ok-progress.ensures.parted (λ rest may. never_parts may.asked)))
     c.in_ok-residue.ensures.left)
 
 pub returns-clause-fewer : goal.returns-clause-fewer
