@@ -76,8 +76,8 @@ fn ports(alloc: Global, desk: &MemoryDesk, answer: Result<(), Failed>) -> Result
     Ok(format!(in alloc; "{answer:?}, opened {opened}: {labels:?}, {tree:?}")?)
 }
 
-// A desk is let go at one place alone of each function that makes one: with each `?` after it the proof takes
-// longer, and the work is done on a desk that was lent.
+// Each function that makes a desk lends it to another for the work, and so lets it go at one place alone. With more
+// places, as after each `?`, the proof takes minutes.
 
 fn fills_on_a_desk(alloc: Global) -> Result<String, Fail> {
     let mut desk = MemoryDesk::new(alloc, 0)?;
@@ -131,10 +131,10 @@ Err(Failed) [120, 97, 98, 99, 100], faults 2
 
 #[test]
 fn pieces_are_whole_but_for_the_last(rt: HostRuntime) -> Result<(), Fail> {
-    let told = pieces_on_a_desk(rt.alloc(), 2)?;
-    assert_eq!(rt; told.as_str(), "Err(Failed) 16384");
-    let told = pieces_on_a_desk(rt.alloc(), 3)?;
-    assert_eq!(rt; told.as_str(), "Ok(()) 32000", "two writes");
+    for (failing, said) in [(2, "Err(Failed) 16384"), (3, "Ok(()) 32000")] {
+        let told = pieces_on_a_desk(rt.alloc(), failing)?;
+        assert_eq!(rt; told.as_str(), said);
+    }
     Ok(())
 }
 

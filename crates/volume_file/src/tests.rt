@@ -32,7 +32,7 @@ fn file(alloc: Global, words: &str) -> Result<Vec<u8>, AllocError> {
 
 /// What reading a file of these bytes says. The read of this number fails.
 ///
-/// The desk is let go at one place alone: each further one, as after a `?`, would double the time of the proof.
+/// The desk is let go at one place alone. With more, as after each `?`, the proof takes minutes.
 fn read(alloc: Global, bytes: &[u8], failing: u64) -> Result<String, Fail> {
     let mut desk = MemoryDesk::new(alloc, 300_000)?;
     read_on(alloc, &mut desk, bytes, failing)
