@@ -4,31 +4,23 @@ ghost use Rattle.face_pointers.specs.Pieces.{AreClimbs};
 use crate::{climb_leaf, resolve};
 use agglo_model::Memory;
 use chunk_tree::Cutting;
-use seg_base::{DimFault, Dims};
-use std::alloc::{AllocError, Global};
+use seg_base::Dims;
+use std::alloc::Global;
+use std::test::Fail;
 use std::thread::Threads;
 use steepest_ascent::Ends;
 use volume_file::{Head, Volume};
 
-#[derive(Debug, Drop)]
-enum Trouble {
-    Dims(DimFault),
-    Memory(Memory),
-    Alloc(AllocError),
-    Length,
-    Cut,
-}
-
 /// A row of voxels whose edges have these bytes.
-fn row(alloc: Global, bytes: &[u8], length: u32) -> Result<Volume, Trouble> {
-    let dims = Dims::new(length, 1, 1).map_err(Trouble::Dims)?;
+fn row(alloc: Global, bytes: &[u8], length: u32) -> Result<Volume, Fail> {
+    let dims = Dims::new(length, 1, 1)?;
     let mut body = Vec::new(alloc);
     for byte in bytes {
         let edges = [*byte, 0, 0];
-        body.extend_from_slice(&edges).map_err(Trouble::Alloc)?;
+        body.extend_from_slice(&edges)?;
     }
     if body.len() != dims.body_len() as usize {
-        return Err(Trouble::Length);
+        return Err("there is one body length".into());
     }
     Ok(Volume::of(Head { dims, version: 1 }, body))
 }
@@ -53,17 +45,15 @@ fn labels<R: Threads + Sync>(
     vol: &Volume,
     low: u8,
     length: u32,
-) -> Result<Vec<u32>, Trouble> {
-    let Ok(cutting) = Cutting::new(vol.dims(), [length, 1, 1]) else {
-        return Err(Trouble::Cut);
-    };
-    let pieces = climbs(alloc, vol, low, &cutting).map_err(Trouble::Memory)?;
-    let labels = resolve(rt, alloc, vol, low, &cutting, pieces).map_err(Trouble::Memory)?;
-    labels.list().to_vec(alloc).map_err(Trouble::Alloc)
+) -> Result<Vec<u32>, Fail> {
+    let cutting = Cutting::new(vol.dims(), [length, 1, 1])?;
+    let pieces = climbs(alloc, vol, low, &cutting)?;
+    let labels = resolve(rt, alloc, vol, low, &cutting, pieces)?;
+    Ok(labels.list().to_vec(alloc)?)
 }
 
 #[test]
-fn an_ascent_is_followed_through_faces(rt: HostRuntime) -> Result<(), Trouble> {
+fn an_ascent_is_followed_through_faces(rt: HostRuntime) -> Result<(), Fail> {
     let vol = row(rt.alloc(), &[0, 100, 100, 100], 4)?;
     let two = labels(&rt, rt.alloc(), &vol, 1, 2)?;
     assert_eq!(rt; two.as_slice(), [1, 1, 1, 1].as_slice());
@@ -75,7 +65,7 @@ fn an_ascent_is_followed_through_faces(rt: HostRuntime) -> Result<(), Trouble> {
 }
 
 #[test]
-fn a_basin_on_both_sides_of_a_face(rt: HostRuntime) -> Result<(), Trouble> {
+fn a_basin_on_both_sides_of_a_face(rt: HostRuntime) -> Result<(), Fail> {
     let vol = row(rt.alloc(), &[0, 200, 100, 200, 90, 200, 100, 200], 8)?;
     for length in [1, 3, 6, 8] {
         let found = labels(&rt, rt.alloc(), &vol, 1, length)?;
