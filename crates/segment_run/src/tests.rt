@@ -1,36 +1,25 @@
 use crate::{Open, Settings, basins, report_text, segment};
-use agglo_model::Memory;
 use chunk_tree::Cutting;
 use mean_fraction::Threshold;
-use seg_base::{DimFault, Dims};
-use std::alloc::{AllocError, Global};
+use seg_base::Dims;
+use std::alloc::Global;
 use std::test::Fail;
 use std::thread::Threads;
 use steepest_ascent::whole_basins;
 use volume_file::{Head, Volume};
 
-#[derive(Debug, Drop)]
-enum Trouble {
-    Dims(DimFault),
-    Memory(Memory),
-    Alloc(AllocError),
-    Length,
-    Cut,
-}
-
 /// A volume of these axes with few distinct bytes, made from a seed.
-fn volume(alloc: Global, axes: [u32; 3], seed: u32) -> Result<Volume, Trouble> {
+fn volume(alloc: Global, axes: [u32; 3], seed: u32) -> Result<Volume, Fail> {
     let [nx, ny, nz] = axes;
-    let dims = Dims::new(nx, ny, nz).map_err(Trouble::Dims)?;
+    let dims = Dims::new(nx, ny, nz)?;
     let mut body = Vec::new(alloc);
     let mut random = seed;
     for _ in 0..dims.body_len() {
         random = random.wrapping_mul(1664525).wrapping_add(1013904223);
-        body.push((random >> 28) as u8 % 5)
-            .map_err(|_| Trouble::Memory(Memory))?;
+        body.push((random >> 28) as u8 % 5)?;
     }
     if body.len() != dims.body_len() as usize {
-        return Err(Trouble::Length);
+        return Err("there is one body length".into());
     }
     Ok(Volume::of(Head { dims, version: 1 }, body))
 }
@@ -42,17 +31,15 @@ fn by_pieces<R: Threads + Sync>(
     vol: &Volume,
     low: u8,
     chunk: [u32; 3],
-) -> Result<Vec<u32>, Trouble> {
-    let Ok(cutting) = Cutting::new(vol.dims(), chunk) else {
-        return Err(Trouble::Cut);
-    };
-    let labels = basins(rt, alloc, vol, low, &cutting).map_err(Trouble::Memory)?;
-    labels.list().to_vec(alloc).map_err(Trouble::Alloc)
+) -> Result<Vec<u32>, Fail> {
+    let cutting = Cutting::new(vol.dims(), chunk)?;
+    let labels = basins(rt, alloc, vol, low, &cutting)?;
+    Ok(labels.list().to_vec(alloc)?)
 }
 
-fn whole(alloc: Global, vol: &Volume, low: u8) -> Result<Vec<u32>, Trouble> {
-    let labels = whole_basins(alloc, vol, low).map_err(Trouble::Memory)?;
-    labels.list().to_vec(alloc).map_err(Trouble::Alloc)
+fn whole(alloc: Global, vol: &Volume, low: u8) -> Result<Vec<u32>, Fail> {
+    let labels = whole_basins(alloc, vol, low)?;
+    Ok(labels.list().to_vec(alloc)?)
 }
 
 const CHUNKS: [[u32; 3]; 12] = [
@@ -71,7 +58,7 @@ const CHUNKS: [[u32; 3]; 12] = [
 ];
 
 #[test]
-fn the_cutting_does_not_show(rt: HostRuntime) -> Result<(), Trouble> {
+fn the_cutting_does_not_show(rt: HostRuntime) -> Result<(), Fail> {
     for seed in 0..20 {
         let vol = volume(rt.alloc(), [9, 8, 7], seed)?;
         let wanted = whole(rt.alloc(), &vol, 2)?;
