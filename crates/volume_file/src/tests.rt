@@ -1,4 +1,4 @@
-use crate::{Volume, generate, read_volume, write_volume};
+use crate::{Volume, generate, read_volume, write_generated, write_volume};
 use seg_base::Dims;
 use seg_io::{CallKind, Desk, Failed, MemoryDesk, Port};
 use std::alloc::{AllocError, Global};
@@ -127,15 +127,26 @@ fn a_body_of_several_pieces_is_read(rt: HostRuntime) -> Result<(), Fail> {
     Ok(())
 }
 
-/// The affinities of a generated volume of three voxels, as text.
+/// The affinities of a generated volume of three voxels as text, and whether its file has them at its end.
 fn generated(alloc: Global) -> Result<String, Fail> {
-    let volume = generate(alloc, 0, &Dims::new(3, 1, 1)?)?;
-    Ok(format!(in alloc; "{:?}", volume.bytes())?)
+    let mut desk = MemoryDesk::new(alloc, 41)?;
+    generated_on(alloc, &mut desk)
+}
+
+fn generated_on(alloc: Global, desk: &mut MemoryDesk) -> Result<String, Fail> {
+    let dims = Dims::new(3, 1, 1)?;
+    let volume = generate(alloc, 0, &dims)?;
+    write_generated(desk, Port::Note, 0, &dims)?;
+    let is_written = desk.written(Port::Note).ends_with(volume.bytes());
+    Ok(format!(in alloc; "{:?}, written: {is_written}", volume.bytes())?)
 }
 
 #[test]
 fn a_volume_is_generated(rt: HostRuntime) -> Result<(), Fail> {
     let told = generated(rt.alloc())?;
-    assert_eq!(rt; told.as_str(), "[60, 71, 209, 170, 98, 159, 87, 163, 129]");
+    assert_eq!(rt;
+        told.as_str(),
+        "[60, 71, 209, 170, 98, 159, 87, 163, 129], written: true"
+    );
     Ok(())
 }
