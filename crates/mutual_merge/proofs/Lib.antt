@@ -10,6 +10,7 @@ pub mod PairRounds
 pub mod KeptRegions
 pub mod LeftGraphs
 pub mod KeptPlaces
+pub mod SameContacts
 pub mod TrimmedGraphs
 pub mod MadeRegions
 pub mod PartedGraphs

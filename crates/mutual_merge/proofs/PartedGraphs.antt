@@ -8,20 +8,11 @@ use Rattle.agglo_model.specs.RegionGraph.{Region, GraphEdge, RegionGraph, IsGrap
 use Rattle.agglo_model.specs.Settling.{IsAt, IsFreeIn, IsReciprocalEdge, IsGraphAfter, HasBothFaces, SettlesInto, edge_after, edge_of}
 use Rattle.agglo_model.proofs.Members.{contains_head, contains_tail, contains_cases, contains_none}
 use Rattle.agglo_model.proofs.GraphAfter.{after_exists}
-use Rattle.agglo_model.proofs.GraphEdges.{edge_contact, edge_counts, edge_of_contact, edge_there}
-use Rattle.agglo_model.proofs.GraphFirsts.{contact_in-none}
+use Rattle.agglo_model.proofs.GraphEdges.{edge_contact, edge_counts, edge_there}
 use Rattle.agglo_model.proofs.GraphMerges.{contact_in-swap, merged-third, merged-gone, merged-others, name_cases}
 use Rattle.agglo_model.proofs.GraphRounds.{Leads}
 use Rattle.mutual_merge.specs.Parts.{AreAside, IsParted}
-
-is_name : (x y : ℕ) → (x ≡ y) ⊎ (x ≢ y)
-is_name x y = grind arith
-
-order_cases : (x y : ℕ) → x ≢ y → (x < y) ⊎ (y < x)
-order_cases x y xy = grind arith
-
-some_cases : (n : ℕ) → (n ≡ 0) ⊎ (0 < n)
-some_cases n = grind arith
+use Rattle.mutual_merge.proofs.SameContacts.{is_name, name_order, same_contact, none_there}
 
 -- a list has a region of a name, or has none
 named_cases : (rs : List Region) (x : ℕ)
@@ -52,30 +43,16 @@ module _ (faces : ℕ) (graph aside awake : RegionGraph) (is : IsGraph graph) (p
   pub awake_there : (past x y : ℕ) → x < y → ¬ (HasRegion aside x × HasRegion aside y)
       → contact_in past awake.edges x y ≡ contact_in past graph.edges x y
   awake_there past x y xy not_both =
-      by_cases (some_cases (contact_in past graph.edges x y).count) (some_cases (contact_in past awake.edges x y).count)
-    where
-      by_edge : (e : GraphEdge) → Contains awake.edges e → (e.a ≡ x) × (e.b ≡ y)
-          → contact_in past awake.edges x y ≡ contact_in past graph.edges x y
-      by_edge e inside (at_a, at_b) =
-          (λ i. contact_in past awake.edges (sym at_a i) (sym at_b i)) ∙ edge_contact awake parted.awake_is past e inside
-          ∙ sym (edge_contact graph is past e ((parted.awake_edges e).0 inside).0) ∙ (λ i. contact_in past graph.edges (at_a i) (at_b i))
-
-      by_cases : ((contact_in past graph.edges x y).count ≡ 0) ⊎ (0 < (contact_in past graph.edges x y).count)
-          → ((contact_in past awake.edges x y).count ≡ 0) ⊎ (0 < (contact_in past awake.edges x y).count)
-          → contact_in past awake.edges x y ≡ contact_in past graph.edges x y
-      by_cases (inr some) here =
-          let found = edge_of_contact graph is past x y xy some in
-          by_edge found.0
-          ((parted.awake_edges found.0).1 (found.1, λ (a, b). not_both (subst (HasRegion aside) found.2 a, subst (HasRegion aside) found.3 b)))
-          (found.2, found.3)
-      by_cases (inl none) (inr here) =
-          let found = edge_of_contact awake parted.awake_is past x y xy here in by_edge found.0 found.1 (found.2, found.3)
-      by_cases (inl none) (inl gone) =
-          contact_in-none awake parted.awake_is past x y gone ∙ sym (contact_in-none graph is past x y none)
+      same_contact past awake graph parted.awake_is is x y xy
+      (λ e at_a at_b. (
+        λ inside. ((parted.awake_edges e).0 inside).0,
+        λ inside. (parted.awake_edges e).1
+            (inside, λ (a, b). not_both (subst (HasRegion aside) at_a a, subst (HasRegion aside) at_b b)),
+      ))
 
   pub awake_between : (past x y : ℕ) → x ≢ y → ¬ (HasRegion aside x × HasRegion aside y)
       → contact_in past awake.edges x y ≡ contact_in past graph.edges x y
-  awake_between past x y xy not_both = elim (order_cases x y xy) [
+  awake_between past x y xy not_both = elim (name_order x y xy) [
     | inl less ↦ awake_there past x y less not_both
     | inr less ↦
         contact_in-swap past x y awake.edges ∙ awake_there past y x less (λ (b, a). not_both (a, b))
@@ -85,17 +62,14 @@ module _ (faces : ℕ) (graph aside awake : RegionGraph) (is : IsGraph graph) (p
   -- names that are both laid aside have no contact in the awake part
   awake_none-less : (past x y : ℕ) → x < y → HasRegion aside x → HasRegion aside y
       → contact_in past awake.edges x y ≡ no_contact past
-  awake_none-less past x y xy a b = elim (some_cases (contact_in past awake.edges x y).count) [
-    | inl none ↦ contact_in-none awake parted.awake_is past x y none
-    | inr some ↦
-        let found = edge_of_contact awake parted.awake_is past x y xy some in
-        absurd (((parted.awake_edges found.0).0 found.1).1
-        (subst (HasRegion aside) (sym found.2) a, subst (HasRegion aside) (sym found.3) b))
-  ]
+  awake_none-less past x y xy a b =
+      none_there past awake graph parted.awake_is is x y xy
+      (λ e at_a at_b inside. ((parted.awake_edges e).0 inside).1
+      (subst (HasRegion aside) (sym at_a) a, subst (HasRegion aside) (sym at_b) b))
 
   pub awake_none : (past x y : ℕ) → x ≢ y → HasRegion aside x → HasRegion aside y
       → contact_in past awake.edges x y ≡ no_contact past
-  awake_none past x y xy a b = elim (order_cases x y xy) [
+  awake_none past x y xy a b = elim (name_order x y xy) [
     | inl less ↦ awake_none-less past x y less a b
     | inr less ↦ contact_in-swap past x y awake.edges ∙ awake_none-less past y x less b a
   ]

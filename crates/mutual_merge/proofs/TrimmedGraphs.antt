@@ -13,6 +13,7 @@ use Rattle.agglo_model.proofs.GraphFirsts.{contact_in-none}
 use Rattle.agglo_model.proofs.GraphMerges.{contact_in-swap, merged-third, merged-gone, merged-others, name_cases}
 use Rattle.agglo_model.proofs.GraphRounds.{Leads}
 use Rattle.mutual_merge.specs.Rounds.{Carries}
+use Rattle.mutual_merge.proofs.SameContacts.{is_name, name_order, some_cases, same_contact}
 
 -- The part of a graph that has all regions which a merge may still take, and the edges among its regions.
 pub record IsTrimmed (t : Threshold) (faces : ℕ) (graph part : RegionGraph) : Type 0 where
@@ -30,15 +31,6 @@ IsTrimmed-left t faces graph part left = record {
   stay = λ r inside is_left. (left.regions r).1 (inside, is_left);
   edges = left.edges;
 }
-
-is_name : (x y : ℕ) → (x ≡ y) ⊎ (x ≢ y)
-is_name x y = grind arith
-
-order_cases : (x y : ℕ) → x ≢ y → (x < y) ⊎ (y < x)
-order_cases x y xy = grind arith
-
-some_cases : (n : ℕ) → (n ≡ 0) ⊎ (0 < n)
-some_cases n = grind arith
 
 -- of two contacts that together reach the threshold, one does
 one_reaches : (p q a b c d : ℕ) → (p ≡ 0 → a ≡ 0) → (p ≡ 0 → c ≡ 0) → (q ≡ 0 → b ≡ 0) → (q ≡ 0 → d ≡ 0) → 0 < p + q → a + b ≤ c + d
@@ -77,7 +69,7 @@ ReachesAt t graph x = (e : GraphEdge) × Contains graph.edges e × IsAt x e × R
 -- where the contact of two names reaches the threshold, so does the edge between them
 reaching_edge : (t : Threshold) (graph : RegionGraph) → IsGraph graph → (past x y : ℕ) → x ≢ y
     → 0 < (contact_in past graph.edges x y).count → Reaches t (contact_in past graph.edges x y) → ReachesAt t graph x
-reaching_edge t graph is past x y xy some reaches = elim (order_cases x y xy) [
+reaching_edge t graph is past x y xy some reaches = elim (name_order x y xy) [
   | inl less ↦
       let found = edge_of_contact graph is past x y less some in
       let same : contact_in past graph.edges x y ≡ added found.0.contact (no_contact past) =
@@ -180,30 +172,15 @@ module _ (t : Threshold) (faces : ℕ) (graph part : RegionGraph) (is : IsGraph 
   same_there : (past x y : ℕ) → x < y → HasRegion part x → HasRegion part y
       → contact_in past part.edges x y ≡ contact_in past graph.edges x y
   same_there past x y xy has_x has_y =
-      by_cases (some_cases (contact_in past graph.edges x y).count) (some_cases (contact_in past part.edges x y).count)
-    where
-      by_edge : (e : GraphEdge) → Contains part.edges e → (e.a ≡ x) × (e.b ≡ y)
-          → contact_in past part.edges x y ≡ contact_in past graph.edges x y
-      by_edge e inside (at_a, at_b) =
-          (λ i. contact_in past part.edges (sym at_a i) (sym at_b i)) ∙ edge_contact part trim.graph_is past e inside
-          ∙ sym (edge_contact graph is past e ((trim.edges e).0 inside).0) ∙ (λ i. contact_in past graph.edges (at_a i) (at_b i))
-
-      by_cases : ((contact_in past graph.edges x y).count ≡ 0) ⊎ (0 < (contact_in past graph.edges x y).count)
-          → ((contact_in past part.edges x y).count ≡ 0) ⊎ (0 < (contact_in past part.edges x y).count)
-          → contact_in past part.edges x y ≡ contact_in past graph.edges x y
-      by_cases (inr some) here =
-          let found = edge_of_contact graph is past x y xy some in
-          by_edge found.0
-          ((trim.edges found.0).1 (found.1, subst (HasRegion part) (sym found.2) has_x, subst (HasRegion part) (sym found.3) has_y))
-          (found.2, found.3)
-      by_cases (inl none) (inr here) =
-          let found = edge_of_contact part trim.graph_is past x y xy here in by_edge found.0 found.1 (found.2, found.3)
-      by_cases (inl none) (inl gone) =
-          contact_in-none part trim.graph_is past x y gone ∙ sym (contact_in-none graph is past x y none)
+      same_contact past part graph trim.graph_is is x y xy
+      (λ e at_a at_b. (
+        λ inside. ((trim.edges e).0 inside).0,
+        λ inside. (trim.edges e).1 (inside, subst (HasRegion part) (sym at_a) has_x, subst (HasRegion part) (sym at_b) has_y),
+      ))
 
   pub same_between : (past x y : ℕ) → x ≢ y → HasRegion part x → HasRegion part y
       → contact_in past part.edges x y ≡ contact_in past graph.edges x y
-  same_between past x y xy has_x has_y = elim (order_cases x y xy) [
+  same_between past x y xy has_x has_y = elim (name_order x y xy) [
     | inl less ↦ same_there past x y less has_x has_y
     | inr less ↦
         contact_in-swap past x y part.edges ∙ same_there past y x less has_y has_x ∙ contact_in-swap past y x graph.edges

@@ -3,13 +3,13 @@ use Rattle.std.proofs.Common.{◌≡◌, ◌≢◌, ◌⊎◌, inl, inr, ℕ, �
 use Rattle.std.specs.Prelude.{Contains, bit_and}
 use Rattle.agglo_model.specs.PairOrder.{Threshold, added}
 use Rattle.agglo_model.specs.Greedy.{Merge}
-use Rattle.agglo_model.specs.RegionGraph.{Region, GraphEdge, RegionGraph, IsGraph, HasRegion, no_contact, contact_in}
+use Rattle.agglo_model.specs.RegionGraph.{Region, RegionGraph, IsGraph, HasRegion, no_contact, contact_in}
 use Rattle.agglo_model.specs.Settling.{IsLeft, IsLeftOf, Settles}
 use Rattle.agglo_model.proofs.GraphContacts.{contact_in-append, contact_in-tie-le, added-none, none-added}
-use Rattle.agglo_model.proofs.GraphEdges.{edge_contact, edge_there, edge_of_contact}
-use Rattle.agglo_model.proofs.GraphFirsts.{contact_in-none}
+use Rattle.agglo_model.proofs.GraphEdges.{edge_contact, edge_there}
 use Rattle.agglo_model.proofs.RegionLists.{one_region}
 use Rattle.mutual_merge.specs.Parts.{FitsAside, IsParted, IsUnited}
+use Rattle.mutual_merge.proofs.SameContacts.{same_contact, none_there}
 use Rattle.mutual_merge.proofs.PartedGraphs.{aside_cases, awake_leads, awake_between, awake_none}
 use Rattle.mutual_merge.proofs.TrimmedGraphs.{IsTrimmed, IsTrimmed-left, same_between, trimmed_settles, leads_settles}
 
@@ -36,45 +36,20 @@ module _ (t : Threshold) (faces : ℕ) (whole aside last left united : RegionGra
   -- what was laid aside has the contacts of the whole
   aside_contact : (past x y : ℕ) → x < y → HasRegion aside x → HasRegion aside y
       → contact_in past aside.edges x y ≡ contact_in past whole.edges x y
-  aside_contact past x y xy a b = by_cases (some_cases (contact_in past whole.edges x y).count) (some_cases (contact_in past aside.edges x y).count)
-    where
-      some_cases : (n : ℕ) → (n ≡ 0) ⊎ (0 < n)
-      some_cases n = grind arith
-
-      by_edge : (e : GraphEdge) → Contains aside.edges e → (e.a ≡ x) × (e.b ≡ y)
-          → contact_in past aside.edges x y ≡ contact_in past whole.edges x y
-      by_edge e inside (at_a, at_b) =
-          (λ i. contact_in past aside.edges (sym at_a i) (sym at_b i)) ∙ edge_contact aside parted.aside_is past e inside
-          ∙ sym (edge_contact whole is past e ((parted.aside_edges e).0 inside).0) ∙ (λ i. contact_in past whole.edges (at_a i) (at_b i))
-
-      by_cases : ((contact_in past whole.edges x y).count ≡ 0) ⊎ (0 < (contact_in past whole.edges x y).count)
-          → ((contact_in past aside.edges x y).count ≡ 0) ⊎ (0 < (contact_in past aside.edges x y).count)
-          → contact_in past aside.edges x y ≡ contact_in past whole.edges x y
-      by_cases (inr some) here =
-          let found = edge_of_contact whole is past x y xy some in
-          by_edge found.0
-          ((parted.aside_edges found.0).1 (found.1, (subst (HasRegion aside) (sym found.2) a, subst (HasRegion aside) (sym found.3) b)))
-          (found.2, found.3)
-      by_cases (inl none) (inr here) =
-          let found = edge_of_contact aside parted.aside_is past x y xy here in by_edge found.0 found.1 (found.2, found.3)
-      by_cases (inl none) (inl gone) =
-          contact_in-none aside parted.aside_is past x y gone ∙ sym (contact_in-none whole is past x y none)
+  aside_contact past x y xy a b =
+      same_contact past aside whole parted.aside_is is x y xy
+      (λ e at_a at_b. (
+        λ inside. ((parted.aside_edges e).0 inside).0,
+        λ inside. (parted.aside_edges e).1 (inside, (subst (HasRegion aside) (sym at_a) a, subst (HasRegion aside) (sym at_b) b)),
+      ))
 
   -- names of which one is awake have no contact in what was laid aside
   aside_none : (past x y : ℕ) → x < y → ¬ (HasRegion aside x × HasRegion aside y)
       → contact_in past aside.edges x y ≡ no_contact past
-  aside_none past x y xy not_both = by_cases (some_cases (contact_in past aside.edges x y).count)
-    where
-      some_cases : (n : ℕ) → (n ≡ 0) ⊎ (0 < n)
-      some_cases n = grind arith
-
-      by_cases : ((contact_in past aside.edges x y).count ≡ 0) ⊎ (0 < (contact_in past aside.edges x y).count)
-          → contact_in past aside.edges x y ≡ no_contact past
-      by_cases (inl none) = contact_in-none aside parted.aside_is past x y none
-      by_cases (inr some) =
-          let found = edge_of_contact aside parted.aside_is past x y xy some in
-          let both = ((parted.aside_edges found.0).0 found.1).1 in
-          absurd (not_both (subst (HasRegion aside) found.2 both.0, subst (HasRegion aside) found.3 both.1))
+  aside_none past x y xy not_both =
+      none_there past aside whole parted.aside_is is x y xy
+      (λ e at_a at_b inside. let both = ((parted.aside_edges e).0 inside).1 in
+      not_both (subst (HasRegion aside) at_a both.0, subst (HasRegion aside) at_b both.1))
 
   left_contact : (past x y : ℕ) → x ≢ y → HasRegion united x → HasRegion united y
       → contact_in past left.edges x y ≡ contact_in past last.edges x y
