@@ -107,12 +107,12 @@ agglomerated settings answer s m t f w =
 
 -- ---- generated volumes
 
--- what was written of a volume is the answer for the one that is generated
-pub made_answer : (settings : MakeSettings) (volume : Grid) (note : List ℕ) → volume ≡ generated_volume settings.start settings.axes
-    → note ≡ make_note (voxel_count settings.axes)
-    → record { outputs = record { port = Volume; name = settings.volume; bytes = volume_bytes volume } ∷ []; note = note } ≡ make_answer settings
-made_answer settings volume note e f = λ i. record {
-  outputs = record { port = Volume; name = settings.volume; bytes = volume_bytes (e i) } ∷ [];
+-- what was written of the generated volume, and the note, are the answer
+pub made_answer : (settings : MakeSettings) (note : List ℕ) → note ≡ make_note (voxel_count settings.axes)
+    → record { outputs = record { port = Volume; name = settings.volume; bytes = volume_bytes (generated_volume settings.start settings.axes) } ∷ []; note = note }
+    ≡ make_answer settings
+made_answer settings note f = λ i. record {
+  outputs = record { port = Volume; name = settings.volume; bytes = volume_bytes (generated_volume settings.start settings.axes) } ∷ [];
   note = f i;
 }
 
