@@ -1,7 +1,7 @@
 -- From a number of the sequence to the one 65536 steps on: the lowest 16 bits stay, and the highest rise by what
 -- hangs on the lowest alone.
 use Rattle.std.proofs.Common.{◌≡◌, ℕ, zero, suc, ◌+◌, ◌-◌, ◌*◌, ◌/◌, ◌%◌, ◌^◌, ◌<◌, refl, sym, ap, ◌∙◌, subst, arith}
-use Rattle.std.proofs.Math.Nat.{mul_comm, mul_assoc, mod-eq_of_lt, mod-lt, mod-add-mod, add-mod-mod}
+use Rattle.std.proofs.Math.Nat.{mul_assoc, mod-eq_of_lt, mod-lt, mod-add-mod, add-mod-mod}
 use Rattle.std.proofs.lemmas.Nat.{mul-mod_first, mul-mod_second}
 use Rattle.agglo_model.specs.Generated.{next_number, number_after}
 

@@ -1,5 +1,5 @@
 -- The steps of generating a volume.
-use Rattle.std.specs.Prelude.{◌≡◌, ℕ, ◌+◌, ◌/◌, ◌%◌, ◌^◌, ◌<◌, List, map, length, get_or}
+use Rattle.std.specs.Prelude.{◌≡◌, ℕ, ◌+◌, ◌/◌, ◌%◌, ◌^◌, ◌<◌, List, map, get_or}
 use Rattle.std.specs.List.{range_with_len}
 use Rattle.agglo_model.specs.Generated.{number_after, generated_byte}
 use Rattle.volume_file.specs.declared.sequence.Sequence.{Sequence}

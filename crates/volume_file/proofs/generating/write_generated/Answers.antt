@@ -1,4 +1,4 @@
-use Rattle.std.proofs.Common.{◌≡◌, [], ◌++◌, map, ap, subst, ◌∙◌}
+use Rattle.std.proofs.Common.{[], ◌++◌, map, subst}
 use Rattle.std.specs.List.{range_with_len}
 use Rattle.std.proofs.lemmas.Result.{err_from_is_err_and}
 use Rattle.agglo_model.specs.Axes.{edge_count}
