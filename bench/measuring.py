@@ -1,8 +1,10 @@
 """What the benchmarks share: the two programs, and how a run of one is measured."""
-import filecmp, os, subprocess, sys, time
+import filecmp, os, re, subprocess, sys, time
 
 HERE = os.path.dirname(os.path.abspath(__file__))
 ROOT = os.path.dirname(HERE)
+LOW, MERGE = "40", "128/1"
+SAMPLES_A_SECOND = 1999
 
 
 def built_agglo():
@@ -19,6 +21,32 @@ def built_plain(folder):
     subprocess.run(["rustc", "-C", "opt-level=3", "--edition", "2021", "-o", plain,
                     os.path.join(HERE, "plain.rs")], check=True)
     return plain
+
+
+def segment_words(agglo, volume, labels, tree, chunk, workers, merge=MERGE):
+    """The words of a segmentation in chunks of so many voxels a side."""
+    return [agglo, "segment", "--volume", volume, "--labels", labels, "--tree", tree, "--low", LOW,
+            "--merge", merge, "--chunk", f"{chunk},{chunk},{chunk}", "--workers", str(workers)]
+
+
+def samples(words, data):
+    """What `perf` samples of a run's processor time, in the order of time: of each its second and its function."""
+    record = ["perf", "record", "-q", "-e", "cpu-clock", "-F", str(SAMPLES_A_SECOND), "-o", data, "--", *words]
+    subprocess.run(record, stdout=subprocess.DEVNULL, check=True)
+    script = ["perf", "script", "-i", data, "-F", "time,ip,sym"]
+    told = subprocess.run(script, stdout=subprocess.PIPE, stderr=subprocess.DEVNULL, text=True, check=True).stdout
+    lines = (line.split(maxsplit=2) for line in told.splitlines())
+    return [(float(line[0].rstrip(":")), line[2]) for line in lines if len(line) == 3]
+
+
+def place_of(pattern, functions, begin=0, is_last=False, otherwise=None):
+    """Of the functions from a place on that have this pattern, the place of the first, or that after the last."""
+    found = [at for at in range(begin, len(functions)) if re.search(pattern, functions[at])]
+    if not found and otherwise is None:
+        sys.exit(f"perf saw no sample of {pattern}")
+    if not found:
+        return otherwise
+    return found[-1] + 1 if is_last else found[0]
 
 
 def run(words):
