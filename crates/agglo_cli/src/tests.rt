@@ -1,6 +1,10 @@
+ghost use Rattle.seg_io.specs.InMemory.{desk_state};
+ghost use Rattle.agglo_cli.specs.Run.{HasNoOutput};
+
 use crate::file_desk::FileDesk;
 use crate::top_call::agglo;
-use seg_io::{CallKind, MemoryDesk, Port};
+use agglo_model::Memory;
+use seg_io::{CallKind, Desk, MemoryDesk, Port};
 use segment_run::{Gate, Open};
 use std::alloc::{AllocError, Global};
 use std::fs;
@@ -33,7 +37,8 @@ fn read_failing(text: &str) -> Result<Failing, Fail> {
         "labels" => CallKind::Write(Port::Labels),
         "tree" => CallKind::Write(Port::Tree),
         "volume" => CallKind::Write(Port::Volume),
-        _ => CallKind::Write(Port::Note),
+        "note" => CallKind::Write(Port::Note),
+        _ => return Err(Fail::from("another call")),
     };
     Ok(Failing {
         room: room.parse()?,
@@ -118,11 +123,34 @@ fn run<R: Threads + Sync, G: Gate>(
 ) -> Result<Outcome, Fail> {
     let words = words(alloc, text)?;
     let mut desk = MemoryDesk::new(alloc, failing.room)?;
+    prepare(&mut desk, bytes, failing)?;
+    let status = end_status(rt, alloc, &words, &mut desk, gate);
+    left_on(alloc, status, &desk)
+}
+
+/// Gives a desk its file and its failures.
+fn prepare(desk: &mut MemoryDesk, bytes: &[u8], failing: Failing) -> Result<(), Memory>
+    requires { HasNoOutput (desk_state desk.old) }
+    ensures { HasNoOutput (desk_state desk.new) }
+{
     desk.add_file("in", bytes)?;
     desk.fail_call(failing.call.0, failing.call.1)?;
     desk.at_most(16);
-    let status = agglo(rt, alloc, &words, &mut desk, gate);
-    left_on(alloc, status, &desk)
+    Ok(())
+}
+
+/// The status with which the program ends over any desk. It promises nothing of the desk, so that the clauses of
+/// `agglo` need not be worked out for each one.
+fn end_status<R: Threads + Sync, D: Desk, G: Gate>(
+    rt: &R,
+    alloc: Global,
+    words: &[String],
+    desk: &mut D,
+    gate: &G,
+) -> u8
+    requires { HasNoOutput (D.state desk.old) }
+{
+    agglo(rt, alloc, words, desk, gate)
 }
 
 /// The status, each file that was opened, the note, the line of a refusal, and how much of the input is left, with
@@ -195,7 +223,7 @@ fn check<R: Threads + Sync + Abort>(rt: &R, alloc: Global, case: &str) -> Result
         None => NOTHING,
     };
     let ran = run(rt, alloc, text, &bytes, failing, &Open)?;
-    assert_eq!(rt; ran.told.as_str(), wanted, "of {text}");
+    assert_eq!(rt; ran.told.as_str(), wanted);
     Ok(())
 }
 
@@ -353,8 +381,14 @@ const FLAWED_VOLUMES: &str = "\
 AFFVOL01 4 1 1 3 0 / 3 0
 3 | agglo: volume fault 1: header of 31 bytes;
 
+AFFVOL02 4 1 1 3 0 0 / 1 0
+3 | agglo: volume fault 2: magic; | 1 bytes left
+
 AFFVOL01 4 1 1 4 0 0 / 1 0
 3 | agglo: volume fault 3: 4 channels; | 1 bytes left
+
+AFFVOL01 4 1 1 3 0 1 / 1 0
+3 | agglo: volume fault 4: reserved bytes; | 1 bytes left
 
 AFFVOL01 4 0 1 3 0 0 / 1 0
 3 | agglo: volume fault 5: axis 1 is zero; | 1 bytes left
@@ -396,19 +430,54 @@ none
 
 show --tree in
 AFFTRE01 4 1 1 50 1 1 1 3 50 0 1 0 6 0
-0 | dims 4 1 1;threshold 50/1;records 1;1 3 50/1 6;
-
-show --tree in
-AFFTRE01 4 1 1 50 1 1 1 3 50 0 1 0 6 / 3 0
-7 | agglo: tree fault 6: body of 31 bytes;
-
-show --tree in
-AFFTRE01 8 1 1 90 1 3 5 7 100 0 1 0 18 0 1 3 100 0 1 0 6 0 1 5 90 0 1 0 12 0
-7 | agglo: tree fault 10: record 1;";
+0 | dims 4 1 1;threshold 50/1;records 1;1 3 50/1 6;";
 
 #[test]
 fn leaves_are_counted_and_trees_are_shown(rt: HostRuntime) -> Result<(), Fail> {
     check_all(&rt, rt.alloc(), OTHER_ENDS)
+}
+
+const FLAWED_TREES: &str = "\
+AFFTRE01 4 1 1 50 1 / 3 0
+7 | agglo: tree fault 1: header of 31 bytes;
+
+AFFTRE02 4 1 1 50 1 1 / 1 0
+7 | agglo: tree fault 2: magic; | 1 bytes left
+
+AFFTRE01 4 0 1 50 1 1 / 1 0
+7 | agglo: tree fault 3: dims; | 1 bytes left
+
+AFFTRE01 4 1 1 50 0 1 / 1 0
+7 | agglo: tree fault 4: denominator; | 1 bytes left
+
+AFFTRE01 4 1 1 50 1 4 / 1 0
+7 | agglo: tree fault 5: 4 records; | 1 bytes left
+
+AFFTRE01 4 1 1 50 1 1 1 3 50 0 1 0 6 / 3 0
+7 | agglo: tree fault 6: body of 31 bytes;
+
+AFFTRE01 4 1 1 50 1 1 1 3 50 0 1 0 6 0 / 1 0
+7 | agglo: tree fault 7: bytes after the body;
+
+AFFTRE01 4 1 1 50 1 1 3 3 50 0 1 0 6 0
+7 | agglo: tree fault 8: record 0;
+
+AFFTRE01 4 1 1 50 1 1 1 3 256 0 1 0 6 0
+7 | agglo: tree fault 9: record 0;
+
+AFFTRE01 8 1 1 90 1 3 5 7 100 0 1 0 18 0 1 3 100 0 1 0 6 0 1 5 90 0 1 0 12 0
+7 | agglo: tree fault 10: record 1;
+
+AFFTRE01 4 1 1 50 1 1 1 3 49 0 1 0 6 0
+7 | agglo: tree fault 11: record 0;";
+
+#[test]
+fn flawed_trees_are_refused(rt: HostRuntime) -> Result<(), Fail> {
+    for flawed in FLAWED_TREES.split("\n\n") {
+        let case = format!(in rt.alloc(); "show --tree in\n{flawed}")?;
+        check(&rt, rt.alloc(), case.as_str())?;
+    }
+    Ok(())
 }
 
 const FAULTS: &str = "\
@@ -585,7 +654,8 @@ fn run_on_files<R: Threads + Sync + Files + Print + Eprint>(
         "segment --volume agglo_test.vol --labels agglo_test.lab --tree agglo_test.tree \
          --low 1 --merge 50/1 --chunk 4,1,1 --workers 1",
     )?;
-    Ok(agglo(rt, alloc, &words, &mut FileDesk::new(rt, alloc), &Open))
+    let mut desk = FileDesk::new(rt, alloc);
+    Ok(end_status(rt, alloc, &words, &mut desk, &Open))
 }
 
 #[test]
