@@ -1,11 +1,11 @@
 -- The work of a node in pair order: where a node has a reciprocal pair it has a first one, and each merge leaves
 -- fewer contact edges. So from any labels there is such a work, and one alone.
-use Rattle.std.proofs.Common.{◌≡◌, ◌≢◌, ◌⊎◌, inl, inr, ℕ, zero, suc, ◌<◌, Bool, true, false, ◌&&◌, List, [], ◌∷◌, length, refl, sym, ap, ◌∙◌, subst, arith}
+use Rattle.std.proofs.Common.{◌≡◌, ◌⊎◌, inl, inr, ℕ, zero, suc, ◌<◌, Bool, true, false, ◌&&◌, List, [], ◌∷◌, length, refl, sym, ap, ◌∙◌, subst, arith}
 use Rattle.std.proofs.lemmas.Bool.{and_parts, and_from, cases_eq, cases_lt, false≢true}
 use Rattle.agglo_model.specs.Axes.{edge_count, is_edge}
 use Rattle.agglo_model.specs.Grid.{Grid}
 use Rattle.agglo_model.specs.PairOrder.{Threshold, Before}
-use Rattle.agglo_model.specs.Contacts.{lower_label, higher_label, is_contact_edge, between, InContact}
+use Rattle.agglo_model.specs.Contacts.{lower_label, higher_label, is_contact_edge, between}
 use Rattle.agglo_model.specs.Greedy.{Merge, IsMutual, after_merge, after_merges}
 use Rattle.agglo_model.specs.Cutting.{Chunking, node_count}
 use Rattle.agglo_model.specs.Work.{IsFree, IsReciprocal, IsFirstNodeStep, IsOrderedWork, AreWorksFrom, IsFirstPartner}
@@ -24,64 +24,60 @@ use Rattle.agglo_model.proofs.NodeTests.{is_free, IsFree-by_test, is_free-from}
 
 -- ---- two names are a reciprocal pair of a node, or they aren't
 
--- a claim holds, or it doesn't
-abbrev Known : Type 0 → Type 0
-Known A = A ⊎ (¬ A)
+holds : (A : Type 0) → Dec A → Bool
+holds A (yes it) = true
+holds A (no none) = false
 
-holds : (A : Type 0) → Known A → Bool
-holds A (inl it) = true
-holds A (inr never) = false
-
-holds-true : (A : Type 0) (known : Known A) → holds A known ≡ true → A
+holds-true : (A : Type 0) (decided : Dec A) → holds A decided ≡ true → A
 unfolding holds
-holds-true A (inl it) pass = it
-holds-true A (inr never) pass = absurd (false≢true pass)
+holds-true A (yes it) pass = it
+holds-true A (no none) pass = absurd (false≢true pass)
 
-holds-from : (A : Type 0) (known : Known A) → A → holds A known ≡ true
+holds-from : (A : Type 0) (decided : Dec A) → A → holds A decided ≡ true
 unfolding holds
-holds-from A (inl now) it = refl
-holds-from A (inr never) it = absurd (never it)
+holds-from A (yes it) now = refl
+holds-from A (no none) now = absurd (none now)
 
-partner_known : (g : Grid) (labels : List ℕ) (x y : ℕ) → Known (IsFirstPartner g labels x y)
-partner_known g labels x y = elim (first_partner_exists g labels x) [
-  | inl none ↦ inr (λ first. none y first.touching)
+first_partner_decided : (g : Grid) (labels : List ℕ) (x y : ℕ) → Dec (IsFirstPartner g labels x y)
+first_partner_decided g labels x y = elim (first_partner_exists g labels x) [
+  | inl alone ↦ no (λ first. alone y first.touching)
   | inr (z, best) ↦ elim (cases_eq z y) [
-    | inl same ↦ inl (subst (IsFirstPartner g labels x) same best)
-    | inr apart ↦ inr (λ first. one_first best first apart)
+    | inl same ↦ yes (subst (IsFirstPartner g labels x) same best)
+    | inr apart ↦ no (λ first. one_first best first apart)
   ]
 ]
 
-mutual_known : (g : Grid) (t : Threshold) (labels : List ℕ) (a b : ℕ) → Known (IsMutual g t labels a b)
-mutual_known g t labels a b = elim (cases_lt a b) [
-  | inr late ↦ inr (λ pair. omega (arith, late, pair.ordered))
-  | inl ordered ↦ elim (partner_known g labels a b) [
-    | inr never ↦ inr (λ pair. never (first_partner_of_a pair))
-    | inl one ↦ elim (partner_known g labels b a) [
-      | inr never ↦ inr (λ pair. never (first_partner_of_b pair))
-      | inl other ↦ elim (reaches_cases t (between g labels a b)) [
-        | inr low ↦ inr (λ pair. low pair.reaches)
-        | inl high ↦ inl (mutual_from_partners ordered one other high)
+mutual_decided : (g : Grid) (t : Threshold) (labels : List ℕ) (a b : ℕ) → Dec (IsMutual g t labels a b)
+mutual_decided g t labels a b = elim (cases_lt a b) [
+  | inr late ↦ no (λ pair. omega (arith, late, pair.ordered))
+  | inl ordered ↦ elim (first_partner_decided g labels a b) [
+    | no none ↦ no (λ pair. none (first_partner_of_a pair))
+    | yes one ↦ elim (first_partner_decided g labels b a) [
+      | no none ↦ no (λ pair. none (first_partner_of_b pair))
+      | yes other ↦ elim (reaches_cases t (between g labels a b)) [
+        | inr low ↦ no (λ pair. low pair.reaches)
+        | inl high ↦ yes (mutual_from_partners ordered one other high)
       ]
     ]
   ]
 ]
 
-free_known : (c : Chunking) (m : ℕ) (labels : List ℕ) (x : ℕ) → Known (IsFree c m labels x)
-free_known c m labels x = by_test (is_free c m labels x) refl
+free_decided : (c : Chunking) (m : ℕ) (labels : List ℕ) (x : ℕ) → Dec (IsFree c m labels x)
+free_decided c m labels x = by_test (is_free c m labels x) refl
   where
-    by_test : (b : Bool) → is_free c m labels x ≡ b → Known (IsFree c m labels x)
-    by_test true is = inl (IsFree-by_test c m labels x is)
-    by_test false is = inr (λ free. false≢true (sym is ∙ is_free-from c m labels x free))
+    by_test : (b : Bool) → is_free c m labels x ≡ b → Dec (IsFree c m labels x)
+    by_test true is = yes (IsFree-by_test c m labels x is)
+    by_test false is = no (λ free. false≢true (sym is ∙ is_free-from c m labels x free))
 
-reciprocal_known : (g : Grid) (t : Threshold) (c : Chunking) (m : ℕ) (labels : List ℕ) (a b : ℕ)
-    → Known (IsReciprocal g t c m labels a b)
-reciprocal_known g t c m labels a b = elim (mutual_known g t labels a b) [
-  | inr never ↦ inr (λ it. never it.pair)
-  | inl pair ↦ elim (free_known c m labels a) [
-    | inr never ↦ inr (λ it. never it.a_free)
-    | inl a_free ↦ elim (free_known c m labels b) [
-      | inr never ↦ inr (λ it. never it.b_free)
-      | inl b_free ↦ inl (record { pair = pair; a_free = a_free; b_free = b_free })
+reciprocal_decided : (g : Grid) (t : Threshold) (c : Chunking) (m : ℕ) (labels : List ℕ) (a b : ℕ)
+    → Dec (IsReciprocal g t c m labels a b)
+reciprocal_decided g t c m labels a b = elim (mutual_decided g t labels a b) [
+  | no none ↦ no (λ both. none both.pair)
+  | yes pair ↦ elim (free_decided c m labels a) [
+    | no frozen ↦ no (λ both. frozen both.a_free)
+    | yes a_free ↦ elim (free_decided c m labels b) [
+      | no frozen ↦ no (λ both. frozen both.b_free)
+      | yes b_free ↦ yes (record { pair = pair; a_free = a_free; b_free = b_free })
     ]
   ]
 ]
@@ -92,10 +88,10 @@ reciprocal_known g t c m labels a b = elim (mutual_known g t labels a b) [
 abbrev merge_at : Grid → List ℕ → ℕ → ℕ → Merge
 merge_at g labels a b = record { survivor = a; absorbed = b; contact = between g labels a b }
 
-either_known : (A B : Type 0) → Known A → Known B → Known (A ⊎ B)
-either_known A B (inl it) other = inl (inl it)
-either_known A B (inr never) (inl it) = inl (inr it)
-either_known A B (inr never) (inr none) = inr (λ it. elim it [ inl a ↦ never a | inr b ↦ none b ])
+either_decided : (A B : Type 0) → Dec A → Dec B → Dec (A ⊎ B)
+either_decided A B (yes it) other = yes (inl it)
+either_decided A B (no none) (yes it) = yes (inr it)
+either_decided A B (no none) (no neither) = no (λ it. elim it [ inl a ↦ none a | inr b ↦ neither b ])
 
 module _ (g : Grid) (t : Threshold) (c : Chunking) (m : ℕ) (labels : List ℕ) where
   -- the labels at the ends of an edge are a reciprocal pair, the smaller name at one end or at the other
@@ -103,16 +99,16 @@ module _ (g : Grid) (t : Threshold) (c : Chunking) (m : ℕ) (labels : List ℕ)
   JoinsPair e = IsReciprocal g t c m labels (lower_label g labels e) (higher_label g labels e)
       ⊎ IsReciprocal g t c m labels (higher_label g labels e) (lower_label g labels e)
 
-  joins_known : (e : ℕ) → Known (JoinsPair e)
-  joins_known e =
+  joins_decided : (e : ℕ) → Dec (JoinsPair e)
+  joins_decided e =
       let x = lower_label g labels e in
       let y = higher_label g labels e in
-      either_known (IsReciprocal g t c m labels x y) (IsReciprocal g t c m labels y x)
-      (reciprocal_known g t c m labels x y) (reciprocal_known g t c m labels y x)
+      either_decided (IsReciprocal g t c m labels x y) (IsReciprocal g t c m labels y x)
+      (reciprocal_decided g t c m labels x y) (reciprocal_decided g t c m labels y x)
 
   -- a contact edge of a reciprocal pair
   abbrev is_edge_of_pair : ℕ → Bool
-  is_edge_of_pair e = is_contact_edge g labels e && holds (JoinsPair e) (joins_known e)
+  is_edge_of_pair e = is_contact_edge g labels e && holds (JoinsPair e) (joins_decided e)
 
   joins_pair : (a b e : ℕ) → IsReciprocal g t c m labels a b
       → ((lower_label g labels e ≡ a) × (higher_label g labels e ≡ b))
@@ -131,7 +127,7 @@ module _ (g : Grid) (t : Threshold) (c : Chunking) (m : ℕ) (labels : List ℕ)
       let x = lower_label g labels e in
       let y = higher_label g labels e in
       and_from (is_contact_edge g labels e) _ (edge_of i x y a b joined)
-      (holds-from (JoinsPair e) (joins_known e) (joins_pair a b e pair (names_are i x y a b joined)))
+      (holds-from (JoinsPair e) (joins_decided e) (joins_pair a b e pair (names_are i x y a b joined)))
 
   -- a reciprocal pair whose contact is the first of all such edges is the first of the node
   first_from_edge : (a b : ℕ) → IsReciprocal g t c m labels a b
@@ -164,7 +160,7 @@ module _ (g : Grid) (t : Threshold) (c : Chunking) (m : ℕ) (labels : List ℕ)
             let joined = InContact-tie g labels a b pair.pair.touching in
             false≢true (sym (none f (joins-edge g labels a b f joined)) ∙ tie_passes a b pair))
         | inr (e, best) ↦ inr (by_end e best.first
-            (holds-true (JoinsPair e) (joins_known e) (and_parts (is_contact_edge g labels e) _ best.passes).1))
+            (holds-true (JoinsPair e) (joins_decided e) (and_parts (is_contact_edge g labels e) _ best.passes).1))
       ]
     where
       by_end : (e : ℕ) → ((f : ℕ) → f < edge_count g.axes → is_edge_of_pair f ≡ true
