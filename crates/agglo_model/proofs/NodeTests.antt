@@ -1,4 +1,5 @@
--- Tests that show by computing which names are free in a node, and that it has no reciprocal pair.
+-- Tests that show by computing which names are free in a node, which pair of them is reciprocal or the first such, and
+-- that there is none.
 use Rattle.std.proofs.Common.{◌≡◌, ◌⊎◌, inl, inr, ℕ, ◌*◌, ◌==◌, Bool, true, false, ◌&&◌, ◌||◌, not, ltb, leb, List, refl, sym, ap, ◌∙◌, subst, arith}
 use Rattle.std.specs.List.{list_all}
 use Rattle.std.proofs.lemmas.Bool.{and_parts, and_from, ltb-true, leb-true, le-leb, eqb-true, eq-eqb, cases_eq}
