@@ -28,8 +28,20 @@ first_partner_of_b {g} {t} {labels} {a} {b} pair = record {
       (pair.first_of_b z other touching);
 }
 
+-- and where they are, their contact is that of a reciprocal pair if it reaches
+pub mutual_from_partners : {g : Grid} {t : Threshold} {labels : List ℕ} {a b : ℕ} → a < b
+    → IsFirstPartner g labels a b → IsFirstPartner g labels b a → Reaches t (between g labels a b) → IsMutual g t labels a b
+mutual_from_partners {g} {t} {labels} {a} {b} ordered one other reaches = record {
+  ordered = ordered;
+  touching = one.touching;
+  first_of_a = one.first;
+  first_of_b = λ z apart touching.
+      subst (λ c. Before c (between g labels b z)) (between-swap g labels b a) (other.first z apart touching);
+  reaches = reaches;
+}
+
 -- a name has one first partner
-one_first : {g : Grid} {labels : List ℕ} {x y z : ℕ} → IsFirstPartner g labels x y
+pub one_first : {g : Grid} {labels : List ℕ} {x y z : ℕ} → IsFirstPartner g labels x y
     → IsFirstPartner g labels x z → y ≢ z → ⊥
 one_first {g} {labels} {x} {y} {z} one other apart =
     before_asym (between g labels x y) (between g labels x z)

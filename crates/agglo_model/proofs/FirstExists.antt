@@ -10,7 +10,7 @@ use Rattle.agglo_model.proofs.ContactEdges.{joins-edge, between-swap, InContact-
 use Rattle.agglo_model.proofs.FirstPairs.{edge_of}
 use Rattle.agglo_model.proofs.FirstEdges.{contact_at, NotAfter, meets_at, first_below, tie_contact}
 
-not_same : (a b c d : ℕ) → ((c ≡ a) × (d ≡ b)) ⊎ ((c ≡ b) × (d ≡ a)) → a < b → c < d
+pub not_same : (a b c d : ℕ) → ((c ≡ a) × (d ≡ b)) ⊎ ((c ≡ b) × (d ≡ a)) → a < b → c < d
     → (c ≢ a) ⊎ (d ≢ b) → ⊥
 not_same a b c d same ab cd other = grind arith
 
@@ -64,7 +64,7 @@ first_exists g labels = elim (first_below g labels (is_contact_edge g labels) (�
       ]
 ]
 
-reaches_cases : (t : Threshold) (c : Contact) → Reaches t c ⊎ (Reaches t c → ⊥)
+pub reaches_cases : (t : Threshold) (c : Contact) → Reaches t c ⊎ (Reaches t c → ⊥)
 reaches_cases t c = grind arith
 
 -- either greedy agglomeration is at its end, or the first pair reaches the threshold

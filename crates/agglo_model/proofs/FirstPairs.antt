@@ -28,11 +28,11 @@ at_edge g p e below all =
         (omega (arith, length-range_with_len 0 (edge_count g.axes))) h)
         ∙ all))
 
-abbrev before_test : Contact → Contact → Bool
+abbrev pub before_test : Contact → Contact → Bool
 before_test c d = ltb (d.sum * c.count) (c.sum * d.count)
     || (eqb (c.sum * d.count) (d.sum * c.count) && ltb c.tie d.tie)
 
-before_test-sound : (c d : Contact) → before_test c d ≡ true → Before c d
+pub before_test-sound : (c d : Contact) → before_test c d ≡ true → Before c d
 before_test-sound c d pass = grind (arith, nat_tests)
 
 -- a contact edge joins a and b, or names whose contact comes later
@@ -55,7 +55,7 @@ and_of : (a b : Bool) → (a && b) ≡ true → (a ≡ true) × (b ≡ true)
 and_of a b h = (grind arith, grind arith)
 
 -- two pairs in ascending order that an edge joins both ways are one pair
-same_pair : (i : Bool) (x y a b c d : ℕ) → ((i && differ x y) && are x y c d) ≡ true
+pub same_pair : (i : Bool) (x y a b c d : ℕ) → ((i && differ x y) && are x y c d) ≡ true
     → are x y a b ≡ true → a < b → c < d → (c ≢ a) ⊎ (d ≢ b) → ⊥
 same_pair i x y a b c d joined is_ab ab cd other = grind (arith, nat_tests)
 
@@ -68,7 +68,7 @@ pub edge_of : (i : Bool) (x y c d : ℕ) → ((i && differ x y) && are x y c d) 
     → (i && differ x y) ≡ true
 edge_of i x y c d joined = grind arith
 
-or_of : (a b : Bool) → (a || b) ≡ true → (a ≡ true) ⊎ (b ≡ true)
+pub or_of : (a b : Bool) → (a || b) ≡ true → (a ≡ true) ⊎ (b ≡ true)
 or_of true b h = inl refl
 or_of false b h = inr h
 

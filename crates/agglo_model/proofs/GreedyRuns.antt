@@ -43,7 +43,7 @@ count_lt p q less (x ∷ xs) (suc k) d below here gone =
 -- ---- contact edges
 
 -- how many there are
-abbrev contact_edges : Grid → List ℕ → ℕ
+abbrev pub contact_edges : Grid → List ℕ → ℕ
 contact_edges g labels = count_by (is_contact_edge g labels) (edge_numbers g)
 
 was_of : (i : Bool) (x y a b : ℕ) → b ≢ 0 → (i && differ (new_name a b x) (new_name a b y)) ≡ true → (i && differ x y) ≡ true
@@ -62,7 +62,7 @@ edge-renamed g labels a b e pb =
     λ i. is_edge g.axes e && differ (low i) (high i)
 
 -- a merge leaves no contact edge that was none, and the tie of its contact is none any more
-fewer_edges : (g : Grid) (labels : List ℕ) (a b : ℕ) → InContact g labels a b
+pub fewer_edges : (g : Grid) (labels : List ℕ) (a b : ℕ) → InContact g labels a b
     → contact_edges g (renamed labels a b) < contact_edges g labels
 fewer_edges g labels a b touching =
     let pb : b ≢ 0 = omega (arith, InContact-names g labels a b touching) in

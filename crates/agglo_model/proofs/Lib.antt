@@ -60,6 +60,7 @@ pub mod WorksRun
 pub mod LevelCounts
 pub mod OneAnswer
 pub mod NodeTests
+pub mod OrderedWorks
 pub mod HeaderFlaws
 pub mod TreeBodies
 pub mod FileParts

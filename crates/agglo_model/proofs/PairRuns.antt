@@ -36,7 +36,7 @@ record TakesFirstOf (Pair : List ℕ → ℕ → ℕ → Type 0) (g : Grid) (lab
   pub reordered : IsPermutation merges (m ∷ rest)
   pub same_labels : after_merges labels merges ≡ after_merges (after_merge labels m) rest
 
-same_merge : (m n : Merge) → m.survivor ≡ n.survivor → m.absorbed ≡ n.absorbed → m.contact ≡ n.contact
+pub same_merge : (m n : Merge) → m.survivor ≡ n.survivor → m.absorbed ≡ n.absorbed → m.contact ≡ n.contact
     → m ≡ n
 same_merge m n s a c = λ i. record { survivor = s i; absorbed = a i; contact = c i }
 
@@ -44,7 +44,7 @@ same_merge m n s a c = λ i. record { survivor = s i; absorbed = a i; contact = 
 pub pair_cases : (a b c d : ℕ) → ((a ≡ c) × (b ≡ d)) ⊎ ((c ≢ a) ⊎ (d ≢ b))
 pair_cases a b c d = grind arith
 
-different_swap : (a b c d : ℕ) → (c ≢ a) ⊎ (d ≢ b) → (a ≢ c) ⊎ (b ≢ d)
+pub different_swap : (a b c d : ℕ) → (c ≢ a) ⊎ (d ≢ b) → (a ≢ c) ⊎ (b ≢ d)
 different_swap a b c d (inl h) = inl (λ e. h (sym e))
 different_swap a b c d (inr h) = inr (λ e. h (sym e))
 

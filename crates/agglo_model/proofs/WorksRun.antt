@@ -8,13 +8,14 @@ use Rattle.agglo_model.specs.Basins.{label_of}
 use Rattle.agglo_model.specs.Grid.{Grid}
 use Rattle.agglo_model.specs.PairOrder.{Threshold}
 use Rattle.agglo_model.specs.Greedy.{Merge, IsMutual, IsMutualRun, after_merge, after_merges}
-use Rattle.agglo_model.specs.Cutting.{Chunking, IsChunking, root}
+use Rattle.agglo_model.specs.Cutting.{Chunking, IsChunking, node_count, root}
 use Rattle.agglo_model.specs.Work.{IsFree, IsReciprocal, IsWork, AreWorksFrom, all_merges, work_of, labels_before, labels_after}
-use Rattle.agglo_model.specs.NodeLaws.{RootHasAllPairs, WorksAreRun}
+use Rattle.agglo_model.specs.NodeLaws.{RootHasAllPairs, WorksAreRun, WorksAreGreedy}
 use Rattle.agglo_model.proofs.Paths.{neighbours_swap}
 use Rattle.agglo_model.proofs.CloseVoxels.{neighbour_below}
 use Rattle.agglo_model.proofs.ConnectedMerges.{bridge}
 use Rattle.agglo_model.proofs.Freezing.{occurs_at, part_from}
+use Rattle.agglo_model.proofs.MutualRuns.{any_order}
 use Rattle.agglo_model.proofs.RootCell.{root_last, root_holds, root_no_face}
 use Rattle.agglo_model.proofs.Works.{work_at, after-is}
 
@@ -66,13 +67,18 @@ reciprocal_in_root g t c h axes labels a b pair =
       b_free = free_in_root c h labels b over.to to over.to_is;
     }
 
+-- the labels after the work of the root are those after all works
+root_is_last : (c : Chunking) → IsChunking c → (labels : List ℕ) (works : List (List Merge)) → length works ≡ node_count c
+    → after_merges labels (all_merges works) ≡ labels_after labels works (root c)
+root_is_last c h labels works len =
+    ap (λ w. after_merges labels (all_merges w)) (sym (take_all (root c + 1) works (omega (arith, root_last c h))))
+
 pub works_are_run : WorksAreRun
 works_are_run g t c labels works on len =
     let h = on.cutting in
     let last = labels_after labels works (root c) in
     let worked : root c < length works = omega (arith, root_last c h) in
-    let at_end : after_merges labels (all_merges works) ≡ last =
-    ap (λ w. after_merges labels (all_merges w)) (sym (take_all (root c + 1) works (omega (arith, root_last c h)))) in
+    let at_end = root_is_last c h labels works len in
     let is_last = after-is g t c labels works on (root c) worked in
     let none : (a b : ℕ) → ¬ (IsMutual g t last a b) = λ a b pair.
     work_ends g t c (root c) (labels_before labels works (root c)) (work_of works (root c))
@@ -80,3 +86,8 @@ works_are_run g t c labels works on len =
     (subst (λ l. IsReciprocal g t c (root c) l a b) is_last
     (reciprocal_in_root g t c h on.axes last a b pair)) in
     works_then g t c 0 labels last works on.works_are.worked at_end none
+
+pub works_are_greedy : WorksAreGreedy
+works_are_greedy g t c labels works greedy on len run =
+    let same = any_order g t labels (all_merges works) greedy (works_are_run g t c labels works on len) run in
+    (same, sym (root_is_last c on.cutting labels works len) ∙ same.same_labels)

@@ -47,6 +47,24 @@ contact_1_5 = record { a = 1; b = 5; contact = record { sum = 90; count = 1; tie
 abbrev pub two_regions : RegionGraph
 two_regions = record { regions = region 1 0 ∷ region 5 2 ∷ []; edges = contact_1_5 ∷ [] }
 
+-- six regions of two voxels each, whose contacts have the means 90, 10, 100, 10 and 110
+abbrev pub six_pairs : Grid
+six_pairs = row_volume (200 ∷ 90 ∷ 200 ∷ 10 ∷ 200 ∷ 100 ∷ 200 ∷ 10 ∷ 200 ∷ 110 ∷ 200 ∷ [])
+
+abbrev pub six_labels : List ℕ
+six_labels = 1 ∷ 1 ∷ 3 ∷ 3 ∷ 5 ∷ 5 ∷ 7 ∷ 7 ∷ 9 ∷ 9 ∷ 11 ∷ 11 ∷ []
+
+-- a leaf of nine voxels, node 0, and one of three
+abbrev pub cut_six : Chunking
+cut_six = cut_row 12 9
+
+-- its two reciprocal pairs at the threshold 50
+abbrev pub merge_1_3 : Merge
+merge_1_3 = merge_of 1 3 90 1 6
+
+abbrev pub merge_5_7 : Merge
+merge_5_7 = merge_of 5 7 100 1 18
+
 -- three voxels in a row
 abbrev pub three_voxels : Axes
 three_voxels = record { nx = 3; ny = 1; nz = 1 }

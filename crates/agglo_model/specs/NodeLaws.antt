@@ -7,12 +7,12 @@ use Rattle.agglo_model.specs.Grid.{Grid}
 use Rattle.agglo_model.specs.Basins.{AreBasins, label_of}
 use Rattle.agglo_model.specs.PairOrder.{Threshold, Reaches}
 use Rattle.agglo_model.specs.Contacts.{joins, between, InContact, renamed}
-use Rattle.agglo_model.specs.Greedy.{Merge, IsMutual, IsMutualRun}
+use Rattle.agglo_model.specs.Greedy.{Merge, IsGreedyRun, IsMutual, IsMutualRun, after_merges}
 use Rattle.agglo_model.specs.MergeLaws.{SameOutcome}
 use Rattle.agglo_model.specs.Connected.{AreConnected}
 use Rattle.agglo_model.specs.Cutting.{Chunking, IsChunking, node_count, cells_at, root, parent, low_corner, high_corner}
 use Rattle.agglo_model.specs.Freezing.{is_held, is_inside, occurs_in, IsFrozen}
-use Rattle.agglo_model.specs.Work.{IsFree, IsReciprocal, IsWork, IsOrderedWork, AreFirstWorks, work_of, labels_before, labels_within, labels_after, IsPassed, IsFirstPartner, all_merges}
+use Rattle.agglo_model.specs.Work.{IsFree, IsReciprocal, IsWork, IsOrderedWork, AreFirstWorks, AreWorks, work_of, labels_before, labels_within, labels_after, IsPassed, IsFirstPartner, all_merges}
 
 -- the cell of a node, as a box
 abbrev pub CellsAreBoxes : Type 0
@@ -59,6 +59,21 @@ WorksAgree = (g : Grid) (t : Threshold) (c : Chunking) (m : ℕ) (labels : List 
 abbrev pub OrderedWorkIsWork : Type 0
 OrderedWorkIsWork = (g : Grid) (t : Threshold) (c : Chunking) (m : ℕ) (labels : List ℕ) (work : List Merge)
     → IsOrderedWork g t c m labels work → IsWork g t c m labels work
+
+-- from any labels a node has a work in pair order
+abbrev pub OrderedWorksExist : Type 0
+OrderedWorksExist = (g : Grid) (t : Threshold) (c : Chunking) (m : ℕ) (labels : List ℕ)
+    → (work : List Merge) × IsOrderedWork g t c m labels work
+
+-- and one alone
+abbrev pub OneOrderedWork : Type 0
+OneOrderedWork = (g : Grid) (t : Threshold) (c : Chunking) (m : ℕ) (labels : List ℕ) (work other : List Merge)
+    → IsOrderedWork g t c m labels work → IsOrderedWork g t c m labels other → work ≡ other
+
+-- from any labels there are works of all nodes
+abbrev pub WorksExist : Type 0
+WorksExist = (g : Grid) (t : Threshold) (c : Chunking) (labels : List ℕ)
+    → (works : List (List Merge)) × AreWorks g t c labels works
 
 -- what the laws below are about: works of the first nodes on a connected list of labels
 pub record AreWorksOn (g : Grid) (t : Threshold) (c : Chunking) (labels : List ℕ) (works : List (List Merge)) : Type 0 where
@@ -108,3 +123,10 @@ RootHasAllPairs = (g : Grid) (t : Threshold) (c : Chunking) → IsChunking c →
 abbrev pub WorksAreRun : Type 0
 WorksAreRun = (g : Grid) (t : Threshold) (c : Chunking) (labels : List ℕ) (works : List (List Merge))
     → AreWorksOn g t c labels works → length works ≡ node_count c → IsMutualRun g t labels (all_merges works)
+
+-- together they are the merges of greedy agglomeration in some order, and the root's work leaves its last labels
+abbrev pub WorksAreGreedy : Type 0
+WorksAreGreedy = (g : Grid) (t : Threshold) (c : Chunking) (labels : List ℕ) (works : List (List Merge)) (greedy : List Merge)
+    → AreWorksOn g t c labels works → length works ≡ node_count c → IsGreedyRun g t labels greedy
+    → SameOutcome labels (all_merges works) greedy
+    × (labels_after labels works (root c) ≡ after_merges labels greedy)

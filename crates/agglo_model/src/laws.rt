@@ -1,8 +1,9 @@
-//! Laws over the definitions, each a function that does nothing and whose contract is the law.
+//! Laws over the definitions, each a function that does nothing and whose contract is the law. Basins of steepest
+//! ascent with a lower threshold are after Zlateski and Seung, arXiv 1505.00249 (2015).
 ghost use Rattle.agglo_model.specs.Laws.{BestIsWhereStrongIs, HasOneLabelling, LabelsAreBounded, NamesAreCounted, NamesNameVoxels};
 
-/// Every volume has exactly one list of basin labels: there is one, and no other has the three
-/// properties.
+/// Every volume has exactly one list of basin labels: there is one, and no other list with a label for each voxel
+/// has the three properties.
 pub fn one_labelling()
     ensures { HasOneLabelling }
 {}
@@ -22,7 +23,7 @@ pub fn counted_names()
     ensures { NamesAreCounted }
 {}
 
-/// A voxel has a best edge exactly where a strong edge meets it.
+/// A voxel has no best edge exactly where no strong edge meets it.
 pub fn best_where_strong()
     ensures { BestIsWhereStrongIs }
 {}

@@ -2,7 +2,7 @@
 ghost use Rattle.agglo_model.specs.Numbers.{BytesWriteBack, NumbersReadBack};
 ghost use Rattle.agglo_model.specs.VolumeLaws.{SoundFilesHoldVolumes, VolumesReadBack};
 
-/// A number reads back from the bytes that it is written as, four or eight of them.
+/// A number below 2^32 reads back from the four bytes that it is written as, and one below 2^64 from its eight.
 pub fn numbers_read_back()
     ensures { NumbersReadBack }
 {}

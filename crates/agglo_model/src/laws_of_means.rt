@@ -13,13 +13,14 @@ ghost use Rattle.agglo_model.specs.MeanLaws.{
   TiesDiffer,
 };
 
-/// Pair order is strict, and of two contacts with different ties one comes first.
+/// Pair order is strict on contacts that have an edge, and of two contacts with different ties one comes first.
 #[tactic(auto, using(crate::proofs::Means::strict_order))]
 pub fn pair_order_is_strict()
     ensures { IsStrictOrder }
 {}
 
-/// The mean of two contacts that are added up lies between theirs.
+/// The mean of two contacts that are added up lies strictly between theirs, or is theirs where they have the same;
+/// and the sum doesn't come before the earlier of the two.
 #[tactic(auto, using(crate::proofs::Means::added_means))]
 pub fn joined_mean_lies_between()
     ensures { (c d : Contact) → 0 < c.count → 0 < d.count → AddsUp c d (added c d) }
@@ -37,14 +38,16 @@ pub fn ties_differ()
     ensures { TiesDiffer }
 {}
 
-/// A merge adds up the contacts of the two names with each third name, and changes no other contact.
+/// A merge adds up the contacts of the two names with each third name, and leaves the contacts of other names with
+/// each other as they are.
 #[tactic(auto, using(crate::proofs::Renames::merges_contacts))]
 pub fn merge_adds_contacts()
     ensures { (g : Grid) (labels : List ℕ) (a b : ℕ) → a ≢ b → a ≢ 0 → b ≢ 0
         → MergesContacts g labels a b }
 {}
 
-/// Reducibility: no merge makes a contact that comes before the earlier of those that it adds up.
+/// Reducibility: where a third name touches both names of a merge, its new contact doesn't come before the earlier
+/// of the two that it had; where it touches one of them alone, it keeps that contact.
 #[tactic(auto, using(crate::proofs::Reducible::reducible))]
 pub fn merging_is_reducible()
     ensures { (g : Grid) (labels : List ℕ) (a b c : ℕ) → a ≢ b → a ≢ 0 → b ≢ 0 → c ≢ a → c ≢ b

@@ -1,9 +1,10 @@
 //! Laws of whole runs of merges. Each function has no body: its contract is the law, over the
-//! definitions alone.
+//! definitions alone. Greedy agglomeration is that of a whole image without division in Lu, Zlateski and
+//! Seung, arXiv 2106.10795 (2021); exact means and their ties are this project's.
 
 ghost use Rattle.agglo_model.specs.MergeLaws.{AnyOrder, Diamond, GreedyFalls, GreedyIsLawful, GreedyRunsExist, OneGreedyRun, SortedIsGreedy};
 
-/// Reciprocal pairs have no name in common, so merging one of them leaves the other reciprocal, with
+/// Two different reciprocal pairs have no name in common, so merging one of them leaves the other reciprocal, with
 /// the contact that it had, and the labels do not tell which of the two was merged first.
 pub fn reciprocal_merges_commute()
     ensures { Diamond }
@@ -22,7 +23,7 @@ pub fn any_order_is_greedy()
     ensures { AnyOrder }
 {}
 
-/// The merges of a run in whatever order, put into pair order, are those of greedy agglomeration.
+/// The merges of a run in whatever order, put into pair order, are a greedy run, and it ends in the same labels.
 pub fn sorted_merges_are_greedy()
     ensures { SortedIsGreedy }
 {}
@@ -38,7 +39,8 @@ pub fn one_greedy_run()
     ensures { OneGreedyRun }
 {}
 
-/// The merges of greedy agglomeration can be written to a tree file: they are a lawful list.
+/// The merges of greedy agglomeration are a lawful list, where affinities are bytes and no label is above the
+/// number of voxels.
 #[tactic(auto, using(crate::proofs::LawfulMerges::greedy_is_lawful))]
 pub fn greedy_merges_are_lawful()
     ensures { GreedyIsLawful }

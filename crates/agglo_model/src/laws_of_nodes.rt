@@ -1,7 +1,8 @@
 //! Why work on chunks gives the answer of the whole volume. Each function has no body: its contract
-//! is the law, over the definitions alone.
+//! is the law, over the definitions alone. That chunks are worked by themselves, and a decision on a region at a
+//! chunk's border is delayed, is after Lu, Zlateski and Seung, arXiv 2106.10795 (2021).
 
-ghost use Rattle.agglo_model.specs.NodeLaws.{BasinsAreConnected, CellsAreBoxes, CellsWait, DroppedNamesStay, FreeNamesLieInside, FrozenNamesAreWhole, LeavesStartFresh, MergesKeepConnected, NodeDiamond, OrderedWorkIsWork, RootHasAllPairs, WorksAgree, WorksAreRun};
+ghost use Rattle.agglo_model.specs.NodeLaws.{BasinsAreConnected, CellsAreBoxes, CellsWait, DroppedNamesStay, FreeNamesLieInside, FrozenNamesAreWhole, LeavesStartFresh, MergesKeepConnected, NodeDiamond, OneOrderedWork, OrderedWorkIsWork, OrderedWorksExist, RootHasAllPairs, WorksAgree, WorksAreGreedy, WorksAreRun, WorksExist};
 ghost use Rattle.agglo_model.specs.SegmentationLaws.{CuttingsAgree, LevelsAgree};
 
 /// Any two voxels of a basin are joined by a path of edges inside the basin.
@@ -22,14 +23,14 @@ pub fn cells_are_boxes()
     ensures { CellsAreBoxes }
 {}
 
-/// A name that occurs in the cell of a node, and isn't frozen there, lies in the cell with all its
-/// voxels, and so do both ends of each of its contact edges.
+/// Where names are connected, one that occurs in the cell of a node, and isn't frozen there, lies in the cell
+/// with all its voxels, and so do both ends of each of its contact edges.
 #[tactic(auto, using(crate::proofs::FreeNames::free_names_lie_inside))]
 pub fn free_names_lie_inside()
     ensures { FreeNamesLieInside }
 {}
 
-/// Two reciprocal pairs of a node have no name in common, so merging one of them leaves the other reciprocal
+/// Two different reciprocal pairs of a node have no name in common, so merging one of them leaves the other reciprocal
 /// in the node, with the contact that it had, and the labels do not tell which of the two was merged first.
 pub fn reciprocal_merges_of_a_node_commute()
     ensures { NodeDiamond }
@@ -46,6 +47,22 @@ pub fn works_of_a_node_agree()
 #[tactic(auto, using(crate::proofs::NodeRuns::ordered_work_is_work))]
 pub fn ordered_work_is_work()
     ensures { OrderedWorkIsWork }
+{}
+
+/// From any labels a node has a work that merges its first reciprocal pair each time.
+pub fn ordered_works_exist()
+    ensures { OrderedWorksExist }
+{}
+
+/// And it has one such work alone: two of them are the same list of merges.
+#[tactic(auto, using(crate::proofs::OrderedWorks::one_ordered_work))]
+pub fn one_ordered_work()
+    ensures { OneOrderedWork }
+{}
+
+/// From any labels there are works of all nodes of a cutting, in ascending number.
+pub fn works_exist()
+    ensures { WorksExist }
 {}
 
 /// Before the work of a leaf, the labels in its cell are those from the start.
@@ -72,16 +89,21 @@ pub fn dropped_names_stay()
     ensures { DroppedNamesStay }
 {}
 
-/// A reciprocal pair of the whole volume is one of the root, so the root's work leaves none.
+/// A reciprocal pair of the whole volume is one of the root.
 pub fn root_has_all_pairs()
     ensures { RootHasAllPairs }
 {}
 
-/// The works of all nodes, one after another, are a run of reciprocal merges of the whole volume. So they
-/// end in the labels of greedy agglomeration, by the law `any_order_is_greedy`.
+/// The works of all nodes, one after another, are a run of reciprocal merges of the whole volume.
 #[tactic(auto, using(crate::proofs::WorksRun::works_are_run))]
 pub fn works_are_a_run()
     ensures { WorksAreRun }
+{}
+
+/// The merges of all nodes are those of greedy agglomeration in some order, and after the work of the root the
+/// labels are those that greedy agglomeration ends in.
+pub fn works_of_all_nodes_are_greedy()
+    ensures { WorksAreGreedy }
 {}
 
 /// There is one list of levels for each cutting: works of all its nodes, in whatever order each merges, count

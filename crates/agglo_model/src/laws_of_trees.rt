@@ -7,7 +7,8 @@ pub fn sound_files_hold_trees()
     ensures { SoundFilesHoldTrees }
 {}
 
-/// The tree file of a merge tree has no flaw, and holds that tree.
+/// The tree file of a merge tree, if the two numbers of its threshold are below 2^32, has no flaw and holds that
+/// tree.
 pub fn trees_read_back()
     ensures { TreesReadBack }
 {}

@@ -9,10 +9,10 @@ ghost use Rattle.agglo_model.specs.Greedy.{IsMutual};
 ghost use Rattle.agglo_model.specs.GreedyExamples.{mean_of};
 ghost use Rattle.agglo_model.specs.CuttingExamples.{cut_row};
 ghost use Rattle.agglo_model.specs.Joining.{is_crossing};
-ghost use Rattle.agglo_model.specs.NodeExamples.{cut_pairs, four_pairs, pair_labels, pair_residues, pair_works, pairs_after_leaves, pairs_after_root, region, three_voxels, two_regions};
+ghost use Rattle.agglo_model.specs.NodeExamples.{cut_pairs, cut_six, four_pairs, merge_1_3, merge_5_7, pair_labels, pair_residues, pair_works, pairs_after_leaves, pairs_after_root, region, six_labels, six_pairs, three_voxels, two_regions};
 ghost use Rattle.agglo_model.specs.Segmentation.{level_count};
 ghost use Rattle.agglo_model.specs.Settling.{IsLeft};
-ghost use Rattle.agglo_model.specs.Work.{AreWorks, IsPassed, IsReciprocal, labels_after};
+ghost use Rattle.agglo_model.specs.Work.{AreWorks, IsFirstNodeStep, IsOrderedWork, IsPassed, IsReciprocal, IsWork, labels_after};
 
 /// A name is frozen where it touches the face between the two leaves; in the root there is none.
 pub fn names_at_a_face()
@@ -37,6 +37,21 @@ pub fn works_of_three_nodes()
     ensures works { AreWorks four_pairs (mean_of 100 1) cut_pairs pair_labels pair_works }
     ensures leaves { labels_after pair_labels pair_works 1 ≡ pairs_after_leaves }
     ensures last { labels_after pair_labels pair_works 2 ≡ pairs_after_root }
+{}
+
+/// Of two reciprocal pairs in the first leaf the one of the greater mean is merged first, though its names are
+/// greater. The pair of 9 and 11 has a greater mean still, but 9 is frozen there.
+pub fn first_pair_of_a_leaf()
+    ensures ordered { IsOrderedWork six_pairs (mean_of 50 1) cut_six 0 six_labels (merge_5_7 ∷ merge_1_3 ∷ []) }
+    ensures elsewhere { IsMutual six_pairs (mean_of 50 1) six_labels 9 11 }
+{}
+
+/// The same merges in the other order are a work of the leaf, but not the one in pair order: the first of them is
+/// that of a reciprocal pair, and not of the first.
+pub fn second_pair_of_a_leaf()
+    ensures work { IsWork six_pairs (mean_of 50 1) cut_six 0 six_labels (merge_1_3 ∷ merge_5_7 ∷ []) }
+    ensures broken { ¬ IsFirstNodeStep six_pairs (mean_of 50 1) cut_six 0 six_labels merge_1_3 }
+    ensures refused { ¬ IsOrderedWork six_pairs (mean_of 50 1) cut_six 0 six_labels (merge_1_3 ∷ merge_5_7 ∷ []) }
 {}
 
 /// After the work of the first leaf the name 1 has a contact of mean 90 alone and is dropped, while 5 is

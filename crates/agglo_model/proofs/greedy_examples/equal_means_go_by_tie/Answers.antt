@@ -14,3 +14,8 @@ pub returns-clause-not_by_names : goal.returns-clause-not_by_names
 unfolding total
 returns-clause-not_by_names c =
     λ pair. let before = pair.first 3 5 (omega arith) (omega arith) (inl (omega arith)) in omega (arith, before)
+
+pub returns-clause-refused : goal.returns-clause-refused
+unfolding total
+returns-clause-refused c =
+    λ step. let before = step.first.first 3 5 (omega arith) (omega arith) (inl (omega arith)) in omega (arith, before)

@@ -9,3 +9,17 @@ returns-clause-run c = (
   record { first = IsFirstPair-by_test _ _ 3 5 refl; contact_is = refl; reaches = omega arith },
   inr (1, 3, IsFirstPair-by_test _ _ 1 3 refl, λ reaches. omega (arith, reaches)),
 )
+
+pub returns-clause-first : goal.returns-clause-first
+unfolding total
+returns-clause-first c = IsFirstPair-by_test _ _ 1 3 refl
+
+pub returns-clause-contact : goal.returns-clause-contact
+unfolding total
+returns-clause-contact c = refl
+
+pub returns-clause-broken : goal.returns-clause-broken
+returns-clause-broken c = λ step. omega (arith, step.reaches)
+
+pub returns-clause-refused : goal.returns-clause-refused
+returns-clause-refused c = λ run. omega (arith, run.1.0.reaches)

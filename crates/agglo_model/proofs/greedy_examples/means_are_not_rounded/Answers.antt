@@ -14,3 +14,8 @@ pub returns-clause-not_rounded : goal.returns-clause-not_rounded
 unfolding total
 returns-clause-not_rounded c =
     λ pair. let before = pair.first 1 5 (omega arith) (omega arith) (inl (omega arith)) in omega (arith, before)
+
+pub returns-clause-refused : goal.returns-clause-refused
+unfolding total
+returns-clause-refused c =
+    λ step. let before = step.first.first 1 5 (omega arith) (omega arith) (inl (omega arith)) in omega (arith, before)
