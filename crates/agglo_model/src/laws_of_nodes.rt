@@ -30,8 +30,8 @@ pub fn free_names_lie_inside()
     ensures { FreeNamesLieInside }
 {}
 
-/// Two different reciprocal pairs of a node have no name in common, so merging one of them leaves the other reciprocal
-/// in the node, with the contact that it had, and the labels do not tell which of the two was merged first.
+/// Two different reciprocal pairs of a node have no name in common, so merging one of them leaves the other
+/// reciprocal in the node, with the contact that it had, and the labels do not tell which was merged first.
 pub fn reciprocal_merges_of_a_node_commute()
     ensures { NodeDiamond }
 {}
@@ -106,14 +106,14 @@ pub fn works_of_all_nodes_are_greedy()
     ensures { WorksAreGreedy }
 {}
 
-/// There is one list of levels for each cutting: works of all its nodes, in whatever order each merges, count
-/// the same at each level.
+/// From given labels a cutting has one list of levels at most: works of all its nodes, in whatever order each
+/// merges, count the same at each level.
 pub fn levels_agree()
     ensures { LevelsAgree }
 {}
 
-/// Whatever the cutting, a volume has one answer: by any two of them the labels, the number of basins and the
-/// merges are the same.
+/// With the same two thresholds a volume has one answer, whatever the cutting: by any two of them the labels, the
+/// number of basins and the merges are the same.
 pub fn cuttings_agree()
     ensures { CuttingsAgree }
 {}
