@@ -1,11 +1,14 @@
 -- A text is cut at its first separator in one way, so fractions and sizes have their parts in one way.
-use Rattle.std.proofs.Common.{◌≡◌, ◌≢◌, ℕ, suc, List, [], ◌∷◌, ◌++◌, get_or, All, Some, None, refl, sym, ap, ◌∙◌, subst, append_assoc, arith}
+use Rattle.std.proofs.Common.{◌≡◌, ◌≢◌, ℕ, suc, List, [], ◌∷◌, ◌++◌, get_or, All, Some, None, MatchOption, Result, Ok, Err, MatchResult, refl, sym, ap, ◌∙◌, subst, append_assoc, arith}
 use Rattle.std.specs.Char.{IsAsciiDigit}
-use Rattle.agglo_model.specs.Axes.{Axes, AxesFlaw, axes_flaw}
-use Rattle.agglo_model.proofs.AxesLimits.{no_flaw}
+use Rattle.std.specs.Result.{result_ok}
+use Rattle.agglo_model.specs.Axes.{Axes, AxesFlaw, IsWithinLimits, axes_flaw}
+use Rattle.agglo_model.proofs.AxesLimits.{no_flaw, within_limits}
 use Rattle.agglo_model.specs.PairOrder.{Threshold}
 use Rattle.command_words.specs.Words.{IsNumber, IsFraction, AreSizes, SpellsAxes, digits_number}
 use Rattle.command_words.specs.Parts.{IsWithout}
+use Rattle.seg_base.specs.declared.dims.DimFault.{DimFault}
+use Rattle.seg_base.specs.Flaw.{flaw_of}
 
 -- a text of digits is without any other byte
 pub digits_without : (c : ℕ) (word : List ℕ) → ((d : ℕ) → IsAsciiDigit d → d ≢ c) → All IsAsciiDigit word → IsWithout c word
@@ -139,3 +142,20 @@ axes_once word a b s t =
     let y : a.ny ≡ b.ny = cc same in
     let z : a.nz ≡ b.nz = cc same in
     λ i. record { nx = x i; ny = y i; nz = z i }
+
+-- ---- axes that are made of sizes
+
+abbrev axes_of : List ℕ → Axes
+axes_of sizes = record { nx = get_or sizes 0 0; ny = get_or sizes 1 0; nz = get_or sizes 2 0 }
+
+three_sizes : (word sizes : List ℕ) → AreSizes word sizes → sizes ≡ get_or sizes 0 0 ∷ get_or sizes 1 0 ∷ get_or sizes 2 0 ∷ []
+three_sizes word sizes s = s.sizes_are ∙ sym (ap (λ l. get_or l 0 0 ∷ get_or l 1 0 ∷ get_or l 2 0 ∷ []) s.sizes_are)
+
+pub axes_read : (word sizes : List ℕ) (r : Result Axes DimFault) → AreSizes word sizes
+    → MatchResult r (λ dims. (axes_flaw (axes_of sizes) ≡ None) × (dims ≡ axes_of sizes)) (λ fault. axes_flaw (axes_of sizes) ≡ Some (flaw_of fault))
+    → MatchOption (result_ok r) ((axes : Axes) → ¬ (SpellsAxes word axes)) (λ axes. SpellsAxes word axes)
+axes_read word sizes (Ok dims) s (sound, is) = record {
+  sizes = subst (AreSizes word) (three_sizes word sizes s ∙ ap (λ (a : Axes). a.nx ∷ a.ny ∷ a.nz ∷ []) (sym is)) s;
+  limits = subst IsWithinLimits (sym is) (within_limits (axes_of sizes) sound);
+}
+axes_read word sizes (Err fault) s bad = no_axes word sizes (flaw_of fault) s bad

@@ -81,9 +81,7 @@ impl<'a> Options<'a> {
             ((file : List ℕ) → ¬ (HasName given (spelled option) file))
             (λ file. HasName given (spelled option) file.now) }
     {
-        let Some(word) = self.value(option) else {
-            return None;
-        };
+        let word = self.value(option)?;
         if is_name(word) { Some(word) } else { None }
     }
 
@@ -94,9 +92,7 @@ impl<'a> Options<'a> {
             ((n : ℕ) → ¬ (HasNumber given (spelled option) least most n))
             (λ n. HasNumber given (spelled option) least most n) }
     {
-        let Some(word) = self.value(option) else {
-            return None;
-        };
+        let word = self.value(option)?;
         parse_number(word, least, most)
     }
 
@@ -106,9 +102,7 @@ impl<'a> Options<'a> {
             ((t : Fraction) → ¬ (HasFraction given (spelled option) t))
             (λ t. HasFraction given (spelled option) t) }
     {
-        let Some(word) = self.value(option) else {
-            return None;
-        };
+        let word = self.value(option)?;
         parse_fraction(word)
     }
 
@@ -118,9 +112,7 @@ impl<'a> Options<'a> {
             ((sizes : List ℕ) → ¬ (HasSizes given (spelled option) sizes))
             (λ sizes. HasSizes given (spelled option) sizes) }
     {
-        let Some(word) = self.value(option) else {
-            return None;
-        };
+        let word = self.value(option)?;
         parse_sizes(word)
     }
 
@@ -130,9 +122,7 @@ impl<'a> Options<'a> {
             ((axes : Axes) → ¬ (HasAxes given (spelled option) axes))
             (λ axes. HasAxes given (spelled option) axes) }
     {
-        let Some(word) = self.value(option) else {
-            return None;
-        };
+        let word = self.value(option)?;
         parse_axes(word)
     }
 }

@@ -91,15 +91,9 @@ pub fn basins_values<'a>(options: &Options<'a>) -> Option<BasinsValues<'a>>
         ((settings : BasinsSettings) → ¬ (GivesBasins given settings))
         (λ values. GivesBasins given (record { volume = values.volume.now; labels = values.labels.now; low = values.low })) }
 {
-    let Some(volume) = options.name(OptionName::Volume) else {
-        return None;
-    };
-    let Some(labels) = options.name(OptionName::Labels) else {
-        return None;
-    };
-    let Some(low) = options.number(OptionName::Low, 0, 255) else {
-        return None;
-    };
+    let volume = options.name(OptionName::Volume)?;
+    let labels = options.name(OptionName::Labels)?;
+    let low = options.number(OptionName::Low, 0, 255)?;
     if volume == labels {
         return None;
     }
@@ -133,30 +127,16 @@ pub fn segment_values<'a>(options: &Options<'a>) -> Option<SegmentValues<'a>>
           workers = values.workers;
         })) }
 {
-    let Some(volume) = options.name(OptionName::Volume) else {
-        return None;
-    };
-    let Some(labels) = options.name(OptionName::Labels) else {
-        return None;
-    };
-    let Some(tree) = options.name(OptionName::Tree) else {
-        return None;
-    };
+    let volume = options.name(OptionName::Volume)?;
+    let labels = options.name(OptionName::Labels)?;
+    let tree = options.name(OptionName::Tree)?;
     if volume == labels || volume == tree || labels == tree {
         return None;
     }
-    let Some(low) = options.number(OptionName::Low, 0, 255) else {
-        return None;
-    };
-    let Some(threshold) = options.fraction(OptionName::Merge) else {
-        return None;
-    };
-    let Some(chunk) = options.sizes(OptionName::Chunk) else {
-        return None;
-    };
-    let Some(workers) = options.number(OptionName::Workers, 1, MOST_WORKERS) else {
-        return None;
-    };
+    let low = options.number(OptionName::Low, 0, 255)?;
+    let threshold = options.fraction(OptionName::Merge)?;
+    let chunk = options.sizes(OptionName::Chunk)?;
+    let workers = options.number(OptionName::Workers, 1, MOST_WORKERS)?;
     Some(SegmentValues {
         volume,
         labels,
@@ -174,15 +154,9 @@ pub fn make_values<'a>(options: &Options<'a>) -> Option<MakeValues<'a>>
         ((settings : MakeSettings) → ¬ (GivesMake given settings))
         (λ values. GivesMake given (record { volume = values.volume.now; start = values.start; axes = values.dims })) }
 {
-    let Some(volume) = options.name(OptionName::Volume) else {
-        return None;
-    };
-    let Some(start) = options.number(OptionName::Start, 0, GREATEST_START) else {
-        return None;
-    };
-    let Some(dims) = options.axes(OptionName::Dims) else {
-        return None;
-    };
+    let volume = options.name(OptionName::Volume)?;
+    let start = options.number(OptionName::Start, 0, GREATEST_START)?;
+    let dims = options.axes(OptionName::Dims)?;
     Some(MakeValues {
         volume,
         start: start as u32,
@@ -203,24 +177,12 @@ pub fn trial_values(options: &Options<'_>) -> Option<TrialValues>
           workers = values.workers;
         })) }
 {
-    let Some(start) = options.number(OptionName::Start, 0, GREATEST_START) else {
-        return None;
-    };
-    let Some(dims) = options.axes(OptionName::Dims) else {
-        return None;
-    };
-    let Some(low) = options.number(OptionName::Low, 0, 255) else {
-        return None;
-    };
-    let Some(threshold) = options.fraction(OptionName::Merge) else {
-        return None;
-    };
-    let Some(chunk) = options.sizes(OptionName::Chunk) else {
-        return None;
-    };
-    let Some(workers) = options.number(OptionName::Workers, 1, MOST_WORKERS) else {
-        return None;
-    };
+    let start = options.number(OptionName::Start, 0, GREATEST_START)?;
+    let dims = options.axes(OptionName::Dims)?;
+    let low = options.number(OptionName::Low, 0, 255)?;
+    let threshold = options.fraction(OptionName::Merge)?;
+    let chunk = options.sizes(OptionName::Chunk)?;
+    let workers = options.number(OptionName::Workers, 1, MOST_WORKERS)?;
     Some(TrialValues {
         start: start as u32,
         dims,

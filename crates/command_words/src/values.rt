@@ -11,6 +11,12 @@ use seg_base::Dims;
 /// The most digits that a number may have, leading zeros among them.
 const MOST_DIGITS: usize = 10;
 
+/// The greatest number of a fraction.
+const GREATEST_NUMBER: u64 = 4_294_967_295;
+
+/// The greatest size, in voxels.
+const MOST_VOXELS: u64 = 65_535;
+
 /// Whether a word may name a file: it is not empty and does not begin with `-`.
 pub fn is_name(word: &str) -> bool
     ensures { IsTrue result ↔ IsName word.now }
@@ -66,40 +72,21 @@ pub(crate) fn cut_at(word: &str, separator: char) -> Option<(&str, &str)>
 pub fn parse_fraction(word: &str) -> Option<Threshold>
     ensures { MatchOption result ((t : Fraction) → ¬ (IsFraction word.now t)) (λ t. IsFraction word.now t) }
 {
-    let Some((above, below)) = cut_at(word, '/') else {
-        return None;
-    };
-    let Some(p) = parse_number(above, 0, 4_294_967_295) else {
-        return None;
-    };
-    let Some(q) = parse_number(below, 1, 4_294_967_295) else {
-        return None;
-    };
-    match Threshold::new(p as u32, q as u32) {
-        Ok(threshold) => Some(threshold),
-        Err(_) => unreachable!(),
-    }
+    let (above, below) = cut_at(word, '/')?;
+    let p = parse_number(above, 0, GREATEST_NUMBER)?;
+    let q = parse_number(below, 1, GREATEST_NUMBER)?;
+    Threshold::new(p as u32, q as u32).ok()
 }
 
 /// The three sizes that numbers with `,` between them spell.
 pub fn parse_sizes(word: &str) -> Option<[u32; 3]>
     ensures { MatchOption result ((sizes : List ℕ) → ¬ (AreSizes word.now sizes)) (λ sizes. AreSizes word.now sizes) }
 {
-    let Some((first, others)) = cut_at(word, ',') else {
-        return None;
-    };
-    let Some((second, third)) = cut_at(others, ',') else {
-        return None;
-    };
-    let Some(x) = parse_number(first, 1, 65_535) else {
-        return None;
-    };
-    let Some(y) = parse_number(second, 1, 65_535) else {
-        return None;
-    };
-    let Some(z) = parse_number(third, 1, 65_535) else {
-        return None;
-    };
+    let (first, others) = cut_at(word, ',')?;
+    let (second, third) = cut_at(others, ',')?;
+    let x = parse_number(first, 1, MOST_VOXELS)?;
+    let y = parse_number(second, 1, MOST_VOXELS)?;
+    let z = parse_number(third, 1, MOST_VOXELS)?;
     Some([x as u32, y as u32, z as u32])
 }
 
@@ -107,11 +94,6 @@ pub fn parse_sizes(word: &str) -> Option<[u32; 3]>
 pub fn parse_axes(word: &str) -> Option<Dims>
     ensures { MatchOption result ((axes : Axes) → ¬ (SpellsAxes word.now axes)) (λ axes. SpellsAxes word.now axes) }
 {
-    let Some(sizes) = parse_sizes(word) else {
-        return None;
-    };
-    match Dims::new(sizes[0], sizes[1], sizes[2]) {
-        Ok(dims) => Some(dims),
-        Err(_) => None,
-    }
+    let [x, y, z] = parse_sizes(word)?;
+    Dims::new(x, y, z).ok()
 }

@@ -15,7 +15,7 @@ use Rattle.agglo_model.proofs.RecordFlaws.{sound_record, names_mean}
 use Rattle.merge_tree.specs.declared.tree_fault.TreeFault.{TreeFault}
 use Rattle.merge_tree.specs.TreeFault.{fault_of}
 use Rattle.merge_tree.specs.TreeReading.{Tells}
-use Rattle.merge_tree.specs.TreeRecords.{AreMarked}
+use Rattle.merge_tree.specs.TreeRecords.{MarksAbsorbed}
 
 -- a record of a body by its number
 pub nth_record : (n : ℕ) (body : List ℕ) (i k : ℕ) (d : Merge) → i < n → k ≡ record_length * i
@@ -28,10 +28,10 @@ nth_record n body i k d below e =
 pub record HasJudged (axes : Axes) (t : Threshold) (all : List Merge) (i : ℕ) (merges : List Merge) (table : List Bool) : Type 0 where
   pub read : merges ≡ take i all
   pub sound : records_flaw axes t [] all ≡ records_flaw axes t merges (drop i all)
-  pub marked : AreMarked (voxel_count axes) merges table
+  pub marked : MarksAbsorbed (voxel_count axes) merges table
 
 -- no name is marked yet
-none_marked : (n : ℕ) (table : List Bool) → table ≡ replicate (n + 1) false → length table ≡ n + 1 → AreMarked n [] table
+none_marked : (n : ℕ) (table : List Bool) → table ≡ replicate (n + 1) false → length table ≡ n + 1 → MarksAbsorbed n [] table
 unfolding is_alive
 none_marked n table e long = record {
   one_each = long;
@@ -56,8 +56,8 @@ alive_more earlier m name = list_all-append (λ e. not (e.absorbed == name)) ear
     last : (a b : Bool) → (a && (b && true)) ≡ (a && b)
     last a b = grind (arith, nat_tests)
 
-mark_more : (greatest : ℕ) (earlier : List Merge) (table : List Bool) (m : Merge) → m.absorbed < length table → AreMarked greatest earlier table
-    → AreMarked greatest (earlier ++ m ∷ []) (set table m.absorbed true)
+mark_more : (greatest : ℕ) (earlier : List Merge) (table : List Bool) (m : Merge) → m.absorbed < length table → MarksAbsorbed greatest earlier table
+    → MarksAbsorbed greatest (earlier ++ m ∷ []) (set table m.absorbed true)
 mark_more greatest earlier table m below marked = record {
   one_each = length-set table m.absorbed true ∙ marked.one_each;
   marks = λ name inside.
@@ -102,8 +102,8 @@ judged_more axes t all merges now i a table m made below at e made_is now_is sou
     let longer : take (i + 1) all ≡ take i all ++ m ∷ [] =
     ap (λ n. take n all) (add-one i) ∙ (take-suc all i m below ∙ ap (λ x. take i all ++ x ∷ []) (sym at)) in
     let there : a < length table = name_within axes t all merges i a table m h sound e in
-    let marked : AreMarked (voxel_count axes) (merges ++ m ∷ []) (set table a true) =
-    subst (λ x. AreMarked (voxel_count axes) (merges ++ m ∷ []) (set table x true)) (sym e)
+    let marked : MarksAbsorbed (voxel_count axes) (merges ++ m ∷ []) (set table a true) =
+    subst (λ x. MarksAbsorbed (voxel_count axes) (merges ++ m ∷ []) (set table x true)) (sym e)
     (mark_more (voxel_count axes) merges table m (subst (λ x. x < length table) e there) h.marked) in
     subst (λ (l : List Merge). HasJudged axes t all (i + 1) l (set table a true)) (sym grown) record {
       read = ap (λ (l : List Merge). l ++ m ∷ []) h.read ∙ sym longer;

@@ -10,7 +10,7 @@ use Rattle.agglo_model.proofs.RecordFlaws.{names_flaw, contact_flaw, order_flaw,
 use Rattle.merge_tree.specs.declared.tree_fault.TreeFault.TheVariants.{Names, Contact, Order, Below}
 use Rattle.merge_tree.specs.TreeFault.{fault_of}
 use Rattle.merge_tree.specs.TreeReading.{Tells}
-use Rattle.merge_tree.specs.TreeRecords.{AreMarked, has_unmarked_names}
+use Rattle.merge_tree.specs.TreeRecords.{MarksAbsorbed, has_unmarked_names}
 
 -- names are judged by the table as by the list
 unmarked_is : (n s a : ℕ) (alive_s alive_a mark_s mark_a : Bool) (long : ℕ) → long ≡ n + 1
@@ -19,7 +19,7 @@ unmarked_is : (n s a : ℕ) (alive_s alive_a mark_s mark_a : Bool) (long : ℕ) 
     ≡ (nat_lt 0 s && (nat_lt s a && (nat_le a n && (alive_s && alive_a))))
 unmarked_is n s a alive_s alive_a mark_s mark_a long e hs ha = grind (arith, nat_tests)
 
-names_by_table : (axes : Axes) (earlier : List Merge) (table : List Bool) (m : Merge) → AreMarked (voxel_count axes) earlier table
+names_by_table : (axes : Axes) (earlier : List Merge) (table : List Bool) (m : Merge) → MarksAbsorbed (voxel_count axes) earlier table
     → has_unmarked_names axes table m ≡ has_names axes earlier m
 names_by_table axes earlier table m marked =
     unmarked_is (voxel_count axes) m.survivor m.absorbed (is_alive earlier m.survivor) (is_alive earlier m.absorbed)
@@ -27,7 +27,7 @@ names_by_table axes earlier table m marked =
     (marked.marks m.survivor) (marked.marks m.absorbed)
 
 -- what a test of names by the table says
-pub table_says : (axes : Axes) (earlier : List Merge) (table : List Bool) (m : Merge) (r b : Bool) → AreMarked (voxel_count axes) earlier table
+pub table_says : (axes : Axes) (earlier : List Merge) (table : List Bool) (m : Merge) (r b : Bool) → MarksAbsorbed (voxel_count axes) earlier table
     → r ≡ has_unmarked_names axes table m → r ≡ b → has_names axes earlier m ≡ b
 table_says axes earlier table m r b marked is says = sym (names_by_table axes earlier table m marked) ∙ (sym is ∙ says)
 

@@ -5,7 +5,7 @@ use Rattle.agglo_model.specs.Greedy.{Merge}
 use Rattle.agglo_model.specs.TreeFile.{is_alive}
 
 -- for each name up to the greatest the table says whether one of the merges absorbed it
-pub record AreMarked (greatest : ℕ) (merges : List Merge) (table : List Bool) : Type 0 where
+pub record MarksAbsorbed (greatest : ℕ) (merges : List Merge) (table : List Bool) : Type 0 where
   pub one_each : length table ≡ greatest + 1
   pub marks : (name : ℕ) → name < length table → slice_index_or table name true ≡ not (is_alive merges name)
 

@@ -9,11 +9,17 @@ use byteorder::{ByteOrder, LittleEndian};
 use seg_base::{Dims, Labels};
 use seg_io::{Desk, Failed, HEADER_LENGTH, Piecer, Port};
 
+/// The text that a label file begins with.
+const MAGIC: &[u8] = b"AFFLAB01";
+
+/// The length of a label in bytes.
+const LABEL_LENGTH: usize = 4;
+
 /// How many labels are turned into bytes at a time.
 const BLOCK_LABELS: usize = 4096;
 
 /// The bytes of these labels.
-const BLOCK_LENGTH: usize = 16_384;
+const BLOCK_LENGTH: usize = LABEL_LENGTH * BLOCK_LABELS;
 
 /// Writes the label file of these labels at the end of the port: a header of 32 bytes, then each
 /// voxel's label in four bytes, the lowest first, in the order of the voxels' numbers. Where a write
@@ -35,11 +41,11 @@ fn header(dims: &Dims) -> [u8; HEADER_LENGTH]
     ensures { result ≡ label_header dims.now }
 {
     let mut bytes = [0; HEADER_LENGTH];
-    bytes[..8].copy_from_slice(b"AFFLAB01");
+    bytes[..8].copy_from_slice(MAGIC);
     LittleEndian::write_u32(&mut bytes[8..], dims.nx());
     LittleEndian::write_u32(&mut bytes[12..], dims.ny());
     LittleEndian::write_u32(&mut bytes[16..], dims.nz());
-    LittleEndian::write_u32(&mut bytes[20..], 4);
+    LittleEndian::write_u32(&mut bytes[20..], LABEL_LENGTH as u32);
     bytes
 }
 
@@ -55,7 +61,7 @@ fn put_list<D: Desk>(piecer: &mut Piecer, desk: &mut D, labels: &[u32]) -> Resul
     let mut done = 0;
     while done < labels.len() {
         let count = BLOCK_LABELS.min(labels.len() - done);
-        let bytes = &mut block[..4 * count];
+        let bytes = &mut block[..LABEL_LENGTH * count];
         LittleEndian::write_u32_into(&labels[done..done + count], bytes);
         piecer.put(desk, bytes)?;
         done += count;

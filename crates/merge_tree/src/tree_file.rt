@@ -16,7 +16,7 @@ use seg_io::{Desk, Failed, HEADER_LENGTH, Piecer, Port};
 const BLOCK_MERGES: usize = 512;
 
 /// The bytes of these merges.
-const BLOCK_LENGTH: usize = 16_384;
+const BLOCK_LENGTH: usize = RECORD_LENGTH * BLOCK_MERGES;
 
 /// Writes the tree file of this tree at the end of the port: a header of 32 bytes, then a record of
 /// 32 bytes for each merge in order. Where a write fails, a prefix of the file was written.

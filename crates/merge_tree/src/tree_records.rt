@@ -2,7 +2,7 @@ ghost use Rattle.std.specs.Prelude.{◌≡◌, ◌≢◌, ◌+◌, ◌*◌, ◌�
 ghost use Rattle.agglo_model.specs.Axes.{voxel_count};
 ghost use Rattle.agglo_model.specs.TreeFile.{has_numbers, follows, merge_at, merges_in, record_flaw, records_flaw};
 ghost use Rattle.merge_tree.specs.TreeReading.{Tells};
-ghost use Rattle.merge_tree.specs.TreeRecords.{AreMarked, has_unmarked_names};
+ghost use Rattle.merge_tree.specs.TreeRecords.{MarksAbsorbed, has_unmarked_names};
 ghost use Rattle.merge_tree.specs.declared.tree_fault.TreeFault.TheVariants.{Memory as WantOfMemory};
 
 use crate::merge::Merge;
@@ -90,7 +90,7 @@ fn judge(
     i: u32,
     raw: RawMerge,
 ) -> Result<Merge, TreeFault>
-    requires marked { AreMarked (voxel_count head.now.dims) earlier.now absorbed.now }
+    requires marked { MarksAbsorbed (voxel_count head.now.dims) earlier.now absorbed.now }
     requires number { i ≡ length earlier.now }
     ensures { MatchResult result
         (λ merge. (record_flaw head.now.dims head.now.threshold earlier.now raw ≡ None) × (merge ≡ raw))
