@@ -27,6 +27,12 @@ level_end_le t level is = omega (
 pub level_end : (t : Chunking) (level : Level) → IsChunking t → IsLevel t level → level.first + voxel_count level.grid < 2 ^ 20
 level_end t level h is = omega (arith, level_end_le t level is, node_count-lt t h)
 
+-- the node after a level is the first of the next
+pub level_end-is : (t : Chunking) (level : Level) → IsLevel t level → (voxels : ℕ) → voxels ≡ voxel_count level.grid
+    → level.first + voxels ≡ first_node t (level.number + 1)
+level_end-is t level is voxels is_voxels =
+    sym (first_node-next t level.number ∙ (λ i. sym is.first i + sym (is_voxels ∙ cells_of t level is) i))
+
 -- the next level
 pub next_level : (t : Chunking) (level : Level) → IsChunking t → IsLevel t level → level.number < last_level t
     → (voxels nx ny nz : ℕ) → voxels ≡ voxel_count level.grid
@@ -35,7 +41,7 @@ pub next_level : (t : Chunking) (level : Level) → IsChunking t → IsLevel t l
     → IsLevel t (record { number = level.number + 1; first = level.first + voxels; grid = grid })
 next_level t level h is inner voxels nx ny nz is_voxels is_x is_y is_z grid is_grid = record {
   reached = omega arith;
-  first = sym (first_node-next t level.number ∙ (λ i. sym is.first i + sym (is_voxels ∙ cells_of t level is) i));
+  first = level_end-is t level is voxels is_voxels;
   grid = is_grid
       ∙ (λ i. record {
         nx = (is_x ∙ ap (λ (a : Axes). div_ceil a.nx 2) is.grid) i;

@@ -1,5 +1,5 @@
 -- The values that children hand on, each in a place of its own.
-use Rattle.std.specs.Prelude.{List, [], ◌∷◌, ◌++◌, Option, Some, None, IsSome}
+use Rattle.std.specs.Prelude.{List, [], ◌∷◌, Option, Some, None, IsSome}
 
 module _ {R : Type 0} where
   -- the value in a place, if it is filled, and those after it

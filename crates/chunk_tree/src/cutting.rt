@@ -1,6 +1,6 @@
 ghost use Rattle.std.specs.Prelude.{◌≡◌, ◌+◌, ◌*◌, ◌^◌, ◌<◌, ◌≤◌, ◌∷◌, [], MatchOption, MatchResult, None, Some};
 ghost use Rattle.agglo_model.specs.Axes.{voxel_count};
-ghost use Rattle.agglo_model.specs.Cutting.{Chunking, IsChunking, artificial_faces, cell_length, cells_at, child, child_count, chunking, high_corner, last_level, leaf_of, level_grid, level_of, low_corner, node_count, parent, root, sizes_flaw};
+ghost use Rattle.agglo_model.specs.Cutting.{Chunking, IsChunking, artificial_faces, cell_length, cells_at, child, child_count, chunking, first_node, high_corner, last_level, leaf_of, level_grid, level_of, low_corner, node_count, parent, root, sizes_flaw};
 ghost use Rattle.chunk_tree.specs.Flaw.{flaw_of};
 ghost use Rattle.chunk_tree.specs.Levels.{AreChildren, IsLevel};
 
@@ -119,6 +119,16 @@ impl Cutting {
         ensures cutting { IsChunking self.now }
     {
         self.last().first
+    }
+
+    /// The node after the last one of level `number`, which is the first of the next level if there is one.
+    pub fn level_end(&self, number: u32) -> u32
+        requires { number ≤ last_level self.now }
+        ensures value { result ≡ first_node self.now (number + 1) }
+        ensures cutting { IsChunking self.now }
+    {
+        let level = self.level(number);
+        level.first + level.grid.voxels()
     }
 
     /// The level of node `m`.

@@ -31,6 +31,20 @@ fn two_leaves_under_a_root(rt: HostRuntime) -> Result<(), Fail> {
         ),
         (0, 0, 1)
     );
+    assert_eq!(rt; (cutting.level_end(0), cutting.level_end(1)), (2, 3));
+    assert_eq!(rt;
+        (cutting.parent(0), cutting.parent(1), cutting.parent(2)),
+        (Some(2), Some(2), None)
+    );
+    assert_eq!(rt; (cutting.child_count(0), cutting.child_count(1)), (0, 0));
+    assert!(rt; cutting.child_count(2) == 2);
+    assert_eq!(rt; (cutting.child(2, 0), cutting.child(2, 1)), (0, 1));
+    Ok(())
+}
+
+#[test]
+fn cells_of_two_leaves_and_a_root(rt: HostRuntime) -> Result<(), Fail> {
+    let cutting = cut(8, 1, 1, [6, 1, 1])?;
     assert_eq!(rt;
         cutting.cell(0),
         Cell {
@@ -60,13 +74,6 @@ fn two_leaves_under_a_root(rt: HostRuntime) -> Result<(), Fail> {
         ),
         (2, 1, 0)
     );
-    assert_eq!(rt;
-        (cutting.parent(0), cutting.parent(1), cutting.parent(2)),
-        (Some(2), Some(2), None)
-    );
-    assert_eq!(rt; (cutting.child_count(0), cutting.child_count(1)), (0, 0));
-    assert!(rt; cutting.child_count(2) == 2);
-    assert_eq!(rt; (cutting.child(2, 0), cutting.child(2, 1)), (0, 1));
     assert!(rt; cutting.dims().voxels() == 8);
     assert_eq!(rt; (cutting.leaf_of(5), cutting.leaf_of(6)), (0, 1));
     Ok(())

@@ -1,6 +1,7 @@
 //! Which of two edges is stronger, and the strongest edge at a voxel.
 //!
-//! It stands on `volume_file`, whose affinities it compares. The ascent to basins stands on it.
+//! It stands on `volume_file`, whose affinities it compares, and on `seg_base` for grids and boxes of voxels.
+//! `steepest_ascent` stands on it.
 #![tactic(auto)]
 
 mod best;

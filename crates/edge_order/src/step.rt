@@ -5,16 +5,22 @@ ghost use Rattle.edge_order.specs.Steps.{LeadsTo, edge_at, leads_within, reverse
 
 use seg_base::Dims;
 
-/// One of the six edges of a voxel, by where it leads: back to the predecessor on an axis, or on to
-/// the successor. `Stay` is none of them. It takes one byte.
+/// One of the six edges of a voxel, by where it leads. It takes one byte.
 #[derive(Clone, Copy, Debug, PartialEq, Eq)]
 pub enum Step {
+    /// None of the edges.
     Stay,
+    /// To the predecessor on the x axis.
     BackX,
+    /// To the predecessor on the y axis.
     BackY,
+    /// To the predecessor on the z axis.
     BackZ,
+    /// To the successor on the x axis.
     OnX,
+    /// To the successor on the y axis.
     OnY,
+    /// To the successor on the z axis.
     OnZ,
 }
 

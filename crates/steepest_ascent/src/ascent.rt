@@ -137,16 +137,14 @@ impl<'a> Ascent<'a> {
     {
         let mut here = v;
         loop {
+            let label = labels[here as usize];
+            if label != 0 {
+                return label;
+            }
             match self.turn(here) {
                 Turn::Stays => return 0,
                 Turn::Ends(name) => return name,
-                Turn::Climbs(next) => {
-                    let label = labels[next as usize];
-                    if label != 0 {
-                        return label;
-                    }
-                    here = next;
-                }
+                Turn::Climbs(next) => here = next,
             }
         }
     }

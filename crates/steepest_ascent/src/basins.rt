@@ -7,7 +7,9 @@ use seg_base::Labels;
 use std::alloc::Global;
 use volume_file::Volume;
 
-/// The basin labels of a volume.
+/// The basin labels of a volume, one for each voxel in order of number: the name of the basin to which the
+/// ascent along best edges leads, and 0 where no edge is at least `low`. The watershed is after Zlateski and
+/// Seung, arXiv 1505.00249 (2015). The only error is want of memory.
 pub fn whole_basins(alloc: Global, vol: &Volume, low: u8) -> Result<Labels, Memory>
     ensures axes { IfOk result (λ labels. labels.axes ≡ vol.now.axes) }
     ensures basins { IfOk result (λ labels. AreBasins vol.now low labels.labels) }

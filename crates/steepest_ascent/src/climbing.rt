@@ -9,7 +9,8 @@ use seg_base::Cell;
 use std::alloc::Global;
 use volume_file::Volume;
 
-/// What the ascent from each voxel of a cell comes to within the cell.
+/// What the ascent from each voxel of a cell comes to within the cell, with x fastest, then y, then z. The
+/// ascent is that of Zlateski and Seung, arXiv 1505.00249 (2015). The only error is want of memory.
 pub fn climb(alloc: Global, vol: &Volume, low: u8, cell: &Cell) -> Result<Ends, Memory>
     requires { IsBoxOf vol.now.axes cell.now.lo cell.now.hi }
     ensures cell { IfOk result (λ ends. ends.cell ≡ cell.now) }

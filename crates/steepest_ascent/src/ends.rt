@@ -1,7 +1,7 @@
 ghost use Rattle.std.specs.Prelude.{◌≡◌, ◌<◌, ◌↔◌, IsTrue, length, slice_set};
 ghost use Rattle.agglo_model.specs.Axes.{voxel_count};
 ghost use Rattle.agglo_model.specs.Boxes.{box_grid};
-ghost use Rattle.steepest_ascent.specs.CellEnds.{IsInCell, end_at, end_of};
+ghost use Rattle.steepest_ascent.specs.CellEnds.{end_at};
 ghost use Rattle.steepest_ascent.specs.declared.ends.End.TheVariants.{Background};
 
 use seg_base::{Cell, Dims};
@@ -93,16 +93,5 @@ impl Ends {
         ensures { self.new ≡ record { cell = self.old.cell; ends = slice_set self.old.ends voxel end } }
     {
         self.list[voxel as usize] = end;
-    }
-
-    /// The end of voxel `v` of the volume, which lies in the cell.
-    pub fn at(&self, dims: &Dims, v: u32) -> End
-        requires voxel { v < voxel_count dims.now }
-        requires in_cell { IsInCell dims.now self.now.cell v }
-        ensures { result ≡ end_of dims.now self.now v }
-    {
-        let [x, y, z] = dims.place(v);
-        let [from_x, from_y, from_z] = self.cell.lo;
-        self.get(self.grid.voxel(x - from_x, y - from_y, z - from_z))
     }
 }

@@ -1,6 +1,7 @@
 //! The ascent from each voxel along best edges, to the basin where it ends.
 //!
-//! It stands on `edge_order`, which finds the best edges. The commands that label basins stand on it.
+//! It stands on `edge_order`, which finds the best edges, on `volume_file` and on `seg_base`. `face_pointers`,
+//! which follows ascents from cell to cell, `segment_run` and the program stand on it.
 #![tactic(auto)]
 
 mod ascent;

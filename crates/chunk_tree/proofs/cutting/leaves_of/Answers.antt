@@ -1,6 +1,6 @@
-use Rattle.std.proofs.Common.{◌≡◌, ◌∙◌, sym, subst}
+use Rattle.std.proofs.Common.{◌∙◌, sym, subst}
 use Rattle.std.specs.Int.{div_ceil}
-use Rattle.agglo_model.specs.Axes.{Axes, IsWithinLimits}
+use Rattle.agglo_model.specs.Axes.{IsWithinLimits}
 use Rattle.agglo_model.proofs.NodeCells.{level_grid-leaves, leaves_limits}
 use Rattle.chunk_tree.proofs.cutting.leaves_of.Goals as goal
 

@@ -1,4 +1,4 @@
-use Rattle.std.proofs.Common.{◌∙◌, refl, ap, arith}
+use Rattle.std.proofs.Common.{◌∙◌, ap, arith}
 use Rattle.agglo_model.specs.Cutting.{Chunking}
 use Rattle.chunk_tree.proofs.Walks.{has_place, place_on_level, scale_le, length_fits, begins_before_end}
 use Rattle.chunk_tree.proofs.cutting.Cutting.cell.Goals as goal
