@@ -1,6 +1,7 @@
 ghost use Rattle.std.specs.Prelude.{◌≡◌};
 ghost use Rattle.agglo_model.specs.RegionGraph.{IsGraph, IsWithinEdges, RegionGraph};
 
+use crate::keys::pair_key;
 use mean_fraction::Contact;
 use std::marker::Model;
 
@@ -66,11 +67,9 @@ impl Edge {
         ensures value { result ≡ order_of self.now }
         ensures fits { IsFit self.now }
     {
-        let a = self.a;
-        let b = self.b;
         // what a contact knows of its count
         let _ = self.contact.count();
-        (u64::from(a) << 32) + u64::from(b)
+        pair_key(self.a, self.b)
     }
 }
 
