@@ -130,14 +130,7 @@ fn merge_rounds(
     loop {
         graph = trim(alloc, &graph, threshold, frozen)?;
         let firsts = first_contacts(alloc, &graph.links, graph.regions.len())?;
-        let pairing = pair_up(
-            alloc,
-            &graph.regions,
-            &graph.links,
-            &firsts,
-            threshold,
-            frozen,
-        )?;
+        let pairing = pair_up(alloc, &graph, &firsts, threshold, frozen)?;
         if pairing.pairs.is_empty() {
             let resting = None;
             return Ok(Progress {
