@@ -6,14 +6,14 @@ use thiserror::Error;
 /// What the words of the command line ask for.
 #[derive(Debug, Drop)]
 pub enum Job {
-    /// Write the label file of the basins of a volume.
+    /// Write the label file of the basins of a volume. Edges below the affinity `low` are not followed.
     Basins {
         volume: String,
         labels: String,
         low: u8,
     },
-    /// Cut a volume into chunks of these lengths on x, y and z, merge its regions in so many threads, and
-    /// write the label file and the merge tree file.
+    /// Cut a volume into leaves of these lengths on x, y and z (`chunk`, in voxels), merge its regions where their
+    /// mean affinity reaches the threshold, in so many threads, and write the label file and the merge tree file.
     Segment {
         volume: String,
         labels: String,

@@ -11,14 +11,23 @@ use seg_base::Dims;
 /// An option that some command has.
 #[derive(Clone, Copy)]
 pub enum OptionName {
+    /// The name of a volume file.
     Volume,
+    /// The name of a label file.
     Labels,
+    /// The name of a merge tree file.
     Tree,
+    /// The least affinity of an edge that the ascent follows.
     Low,
+    /// The mean affinity from which on regions are merged, as a fraction.
     Merge,
+    /// The lengths of the leaves of a cutting on x, y and z, in voxels.
     Chunk,
+    /// In how many lanes nodes are merged.
     Workers,
+    /// The number that a generated volume starts from.
     Start,
+    /// The lengths of the axes x, y and z of a generated volume, in voxels.
     Dims,
 }
 
@@ -59,9 +68,10 @@ impl OptionName {
     }
 }
 
-/// The value of each option that words give, in the order of `OptionName`.
+/// What words give the options.
 #[derive(Clone, Copy)]
 pub struct Options<'a> {
+    /// The value of each option, in the order of `OptionName`.
     pub values: [Option<&'a str>; 9],
 }
 

@@ -12,7 +12,10 @@ use crate::settings::{
 use crate::values::cut_at;
 use std::alloc::Global;
 
-/// What the words after the program's name ask for. Words are refused without taking memory where
+/// What the words after the program's name ask for: the name of a command, and its options in any order, each by
+/// one word `--name=value` or by two.
+///
+/// Answers `NoSettings` for words that are no settings, and `Memory`. Words are refused without taking memory where
 /// there is none, the first is no command, or another is `--` or a name with a `=` and nothing after it.
 pub fn read_words(alloc: Global, words: &[String]) -> Result<Job, WordsFault>
     ensures answer { AnswersWords (texts words.now) result }

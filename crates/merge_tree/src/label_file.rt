@@ -22,8 +22,8 @@ const BLOCK_LABELS: usize = 4096;
 const BLOCK_LENGTH: usize = LABEL_LENGTH * BLOCK_LABELS;
 
 /// Writes the label file of these labels at the end of the port: a header of 32 bytes, then each
-/// voxel's label in four bytes, the lowest first, in the order of the voxels' numbers. Where a write
-/// fails, a prefix of the file was written.
+/// voxel's label in four bytes, the lowest first, in the order of the voxels' numbers: x fastest, then
+/// y, then z. It takes no memory. Where a write fails, a prefix of the file was written.
 pub fn put_labels<D: Desk>(desk: &mut D, labels: &Labels) -> Result<(), Failed>
     requires { IsOpen Port.Labels (D.state desk.old) }
     ensures { MatchResult result

@@ -1,12 +1,14 @@
 use mean_fraction::Contact;
 use std::marker::Model;
 
-/// One merge of two regions: the name that stays, the name that is given up, and the contact that
-/// the two had.
+/// One merge of two regions.
 #[derive(Clone, Copy, Debug, PartialEq, Eq)]
 pub struct Merge {
+    /// The name that stays. In a tree it is the smaller one.
     pub survivor: u32,
+    /// The name that is given up.
     pub absorbed: u32,
+    /// The contact that the two had.
     pub contact: Contact,
 }
 

@@ -56,7 +56,9 @@ pub enum TreeFault {
 /// Why bytes could not be read, whatever they are.
 #[derive(Clone, Copy, Debug, PartialEq, Eq)]
 pub enum InputFault {
+    /// The input failed.
     Read,
+    /// There was no memory for them.
     Memory,
 }
 

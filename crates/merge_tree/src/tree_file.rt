@@ -19,7 +19,8 @@ const BLOCK_MERGES: usize = 512;
 const BLOCK_LENGTH: usize = RECORD_LENGTH * BLOCK_MERGES;
 
 /// Writes the tree file of this tree at the end of the port: a header of 32 bytes, then a record of
-/// 32 bytes for each merge in order. Where a write fails, a prefix of the file was written.
+/// 32 bytes for each merge in order. It takes no memory. Where a write fails, a prefix of the file was
+/// written.
 pub fn put_tree<D: Desk>(desk: &mut D, tree: &Tree) -> Result<(), Failed>
     requires { IsOpen Port.Tree (D.state desk.old) }
     ensures { MatchResult result

@@ -40,8 +40,11 @@ impl Model for RawMerge {
 /// What a header says of the records.
 #[derive(Clone, Copy, Debug, PartialEq, Eq)]
 pub struct Head {
+    /// The axes of the volume.
     pub dims: Dims,
+    /// The threshold that all merges reach.
     pub threshold: Threshold,
+    /// How many records there are.
     pub merges: u32,
     pub ghost few: { merges < voxel_count dims },
 }

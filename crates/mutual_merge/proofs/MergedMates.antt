@@ -20,7 +20,7 @@ NoLater-from_keys n ls fit each sorted i j d before below =
     numbers (get_or ls i d).a (get_or ls i d).b (get_or ls j d).a (get_or ls j d).b (omega arith) (omega arith)
     (sorted i j d (omega arith) below)
   where
-    numbers : (a b x y : ℕ) → b < 4294967296 → y < 4294967296 → a * 4294967296 + b ≤ x * 4294967296 + y → (a < x) ⊎ ((a ≡ x) × (b ≤ y))
+    numbers : (a b x y : ℕ) → b < 4294967296 → y < 4294967296 → 4294967296 * a + b ≤ 4294967296 * x + y → (a < x) ⊎ ((a ≡ x) × (b ≤ y))
     numbers a b x y low high keys = grind arith
 
 -- links are the same edges by names that agree at the places of regions

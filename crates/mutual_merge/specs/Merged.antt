@@ -51,7 +51,7 @@ pub record AreMoved (links : List Link) (places : List ℕ) (moved : List Link) 
 
 -- the number by which links are sorted
 abbrev pub key_of : Link → ℕ
-key_of l = l.a * 2 ^ 32 + l.b
+key_of l = 2 ^ 32 * l.a + l.b
 
 -- one link stands before another, or the two join the same regions
 abbrev pub NoLater : Link → Link → Type 0

@@ -1,6 +1,6 @@
 ghost use Rattle.std.specs.Prelude.{◌≡◌, ◌<◌, ◌≤◌, ◌^◌, [], IfOk, IfSome, length};
 ghost use Rattle.agglo_model.specs.RegionGraph.{HasRegion, IsGraph, IsWithinEdges};
-ghost use Rattle.mutual_merge.specs.Linked.{AreLinked, Ascend, edges_by, name_at};
+ghost use Rattle.mutual_merge.specs.Linked.{AreLinked, Ascend, IsLink, edge_by, edges_by, name_at};
 
 use agglo_model::Memory;
 use mean_fraction::Contact;
@@ -161,4 +161,16 @@ pub fn name_of(regions: &[Region], place: usize) -> u32
 {
     let region = &regions[place];
     region.name
+}
+
+/// The edge that a link is, by the names of its two regions.
+pub fn edge_of(regions: &[Region], link: &Link) -> Edge
+    requires { IsLink (length regions.now) link.now }
+    ensures { result ≡ edge_by (name_at regions.now) link.now }
+{
+    Edge {
+        a: name_of(regions, link.a as usize),
+        b: name_of(regions, link.b as usize),
+        contact: link.contact,
+    }
 }

@@ -9,12 +9,11 @@ ghost use Rattle.mutual_merge.specs.Merged.{
   AreSurvivors,
   IsJoinedLink,
   NoLater,
-  key_of,
 };
 
 use crate::links::Link;
 use agglo_model::Memory;
-use region_graph::Region;
+use region_graph::{Region, pair_key};
 use std::alloc::Global;
 
 /// Regions by ascending name, and the links between them in order.
@@ -44,7 +43,7 @@ pub fn merge_mates(
 {
     let survivors = keep_survivors(alloc, regions, mates)?;
     let mut moved = move_links(alloc, links, &survivors.places)?;
-    moved.sort_unstable_by_key(|link| key(link));
+    moved.sort_unstable_by_key(|link| pair_key(link.a, link.b));
     let links = join_links(alloc, &moved)?;
     Ok(LinkedGraph {
         regions: survivors.kept,
@@ -101,15 +100,6 @@ fn move_links(alloc: Global, links: &[Link], places: &[u32]) -> Result<Vec<Link>
         }
     }
     Ok(moved)
-}
-
-/// The number by which links are sorted.
-fn key(link: &Link) -> u64
-    ensures { result ≡ key_of link.now }
-{
-    let a = link.a;
-    let b = link.b;
-    u64::from(a) * 4_294_967_296 + u64::from(b)
 }
 
 /// Adds up the contacts of links between the same two regions, which stand beside each other.

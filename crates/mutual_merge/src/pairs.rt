@@ -6,6 +6,7 @@ ghost use Rattle.mutual_merge.specs.Pairs.{AreSingle, IsPairing, IsReciprocalBy,
 
 use crate::firsts::is_not_earlier;
 use crate::links::{Link, name_of};
+use crate::merging::LinkedGraph;
 use agglo_model::Memory;
 use mean_fraction::{Contact, Threshold};
 use merge_tree::Merge;
@@ -22,20 +23,20 @@ pub struct Pairing {
 /// Pairs up regions that are reciprocal, by the first contact at each. Where some pair is reciprocal, there is one.
 pub fn pair_up(
     alloc: Global,
-    regions: &[Region],
-    links: &[Link],
+    graph: &LinkedGraph,
     firsts: &[Option<Contact>],
     threshold: &Threshold,
     frozen: u8,
 ) -> Result<Pairing, Memory>
-    requires linked { AreLinked regions.now links.now }
-    requires firsts { AreFirsts links.now (length regions.now) firsts.now }
-    ensures { IfOk result (λ pairing.
-        IsPairing threshold.now frozen regions.now links.now pairing.mates.items pairing.pairs.items) }
+    requires linked { AreLinked graph.now.regions.items graph.now.links.items }
+    requires firsts { AreFirsts graph.now.links.items (length graph.now.regions.items) firsts.now }
+    ensures { IfOk result (λ pairing. IsPairing threshold.now frozen graph.now.regions.items graph.now.links.items
+        pairing.mates.items pairing.pairs.items) }
 {
+    let regions = &graph.regions;
     let mut mates = places(alloc, regions.len())?;
     let mut pairs = Vec::new(alloc);
-    for link in links {
+    for link in &graph.links {
         if can_pair(link, &mates, regions, firsts, threshold, frozen) {
             pairs.push(*link)?;
             mate(&mut mates, link);

@@ -4,7 +4,7 @@ ghost use Rattle.agglo_model.specs.RegionGraph.{grid_edges};
 ghost use Rattle.mutual_merge.specs.Linked.{AreLinked, Ascend, IsLink, graph_of, link_edges};
 ghost use Rattle.mutual_merge.specs.Parts.{AreMarked, AreRestored, FitsAside, HasHeldBack, IsParted, IsUnited, MayRest, awake_edges};
 
-use crate::links::{Link, name_of, place_of};
+use crate::links::{Link, edge_of, place_of};
 use crate::merging::LinkedGraph;
 use crate::pairs::is_free;
 use crate::residue::{edges_among, regions_of};
@@ -75,11 +75,7 @@ fn edges_at_awake(
     let mut edges = Vec::new(alloc);
     for link in links {
         if is_at_awake(link, rest) {
-            edges.push(Edge {
-                a: name_of(regions, link.a as usize),
-                b: name_of(regions, link.b as usize),
-                contact: link.contact,
-            })?;
+            edges.push(edge_of(regions, link))?;
         }
     }
     Ok(edges)

@@ -4,7 +4,7 @@ ghost use Rattle.agglo_model.specs.Settling.{IsLeftOf};
 ghost use Rattle.mutual_merge.specs.Linked.{AreLinked, IsLink, graph_of, link_edges};
 ghost use Rattle.mutual_merge.specs.Left.{AreHeldBack, AreLeft, KeepsReaching, edges_left, regions_left};
 
-use crate::links::{Link, name_of};
+use crate::links::{Link, edge_of};
 use crate::merging::LinkedGraph;
 use crate::pairs::is_free;
 use agglo_model::Memory;
@@ -84,14 +84,8 @@ pub fn edges_among(
 {
     let mut edges = Vec::new(alloc);
     for link in links {
-        let a = link.a as usize;
-        let b = link.b as usize;
-        if kept[a] && kept[b] {
-            edges.push(Edge {
-                a: name_of(regions, a),
-                b: name_of(regions, b),
-                contact: link.contact,
-            })?;
+        if kept[link.a as usize] && kept[link.b as usize] {
+            edges.push(edge_of(regions, link))?;
         }
     }
     Ok(edges)

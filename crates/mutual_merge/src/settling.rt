@@ -18,10 +18,12 @@ use merge_tree::Merge;
 use region_graph::Graph;
 use std::alloc::Global;
 
-/// What became of a graph: what is left of it, and the merges in order.
+/// What became of a graph.
 #[derive(Drop)]
 pub struct Settled {
+    /// What is left: the regions that a later merge may take, and the edges among them.
     pub residue: Graph,
+    /// The merges that were made, one after another.
     pub merges: Vec<Merge>,
 }
 
@@ -37,15 +39,23 @@ struct Progress {
 /// Whether a part of a graph may be settled by itself.
 #[derive(Clone, Copy, PartialEq)]
 enum Parting {
+    /// All regions are looked at in each round.
     Never,
+    /// The others are settled by themselves where most contacts are between regions that rest.
     WhereMostRest,
 }
 
-/// Merges the reciprocal pairs of a graph until there is none, but for regions that touch one of the faces
-/// `frozen`. Where there is no memory, the graph is given up.
+/// Merges the reciprocal pairs of a graph until there is none: two regions whose contact reaches the threshold
+/// and comes before all others at both, by its mean affinity. Regions that touch one of the faces `frozen` take
+/// no part, since their fate is decided by a node above; the bits are those of `Region`.
+///
+/// This is agglomeration by mean affinity with delayed decisions, after Lu, Zlateski and Seung, Large-scale image
+/// segmentation based on distributed clustering algorithms, arXiv 2106.10795 (2021).
 ///
 /// Where most contacts are between regions that wait for one that is held back, the others are settled by
 /// themselves; then all are looked at once more.
+///
+/// Fails for want of memory alone; the graph is given up then.
 pub fn settle(
     alloc: Global,
     graph: Graph,
@@ -130,14 +140,7 @@ fn merge_rounds(
     loop {
         graph = trim(alloc, &graph, threshold, frozen)?;
         let firsts = first_contacts(alloc, &graph.links, graph.regions.len())?;
-        let pairing = pair_up(
-            alloc,
-            &graph.regions,
-            &graph.links,
-            &firsts,
-            threshold,
-            frozen,
-        )?;
+        let pairing = pair_up(alloc, &graph, &firsts, threshold, frozen)?;
         if pairing.pairs.is_empty() {
             let resting = None;
             return Ok(Progress {

@@ -11,8 +11,9 @@ use crate::sums::add_edge_at;
 use agglo_model::Memory;
 use seg_base::Cell;
 
-/// Adds the contacts of the edges on an axis whose higher ends lie in a box. No voxel of the box lies at the
-/// volume's low border on that axis.
+/// Adds the contacts of the edges on an axis (0 is x, 1 is y, 2 is z) whose higher ends lie in a box. No voxel of
+/// the box lies at the volume's low border on that axis. The list is in no order, and names come again in it.
+/// Where there is no memory, some contacts were added and others not.
 pub fn add_contacts(
     edges: &mut Vec<Edge>,
     site: &Site,

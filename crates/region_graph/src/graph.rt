@@ -1,14 +1,17 @@
 ghost use Rattle.std.specs.Prelude.{◌≡◌};
 ghost use Rattle.agglo_model.specs.RegionGraph.{IsGraph, IsWithinEdges, RegionGraph};
 
+use crate::keys::pair_key;
 use mean_fraction::Contact;
 use std::marker::Model;
 
-/// A name in a cell, and the artificial faces of the cell that it touches: 1 and 2 for the low and the
-/// high one on x, 4 and 8 on y, 16 and 32 on z, added up.
+/// A name in a cell.
 #[derive(Clone, Copy, Debug, PartialEq, Eq)]
 pub struct Region {
+    /// The label of its voxels.
     pub name: u32,
+    /// The artificial faces of the cell that it touches: 1 and 2 for the low and the high one on x, 4 and 8 on y,
+    /// 16 and 32 on z, added up.
     pub faces: u8,
 }
 
@@ -22,11 +25,14 @@ impl Model for Region {
     ghost inverse = { λ r. record { name = r.name; faces = r.faces } };
 }
 
-/// Two names in contact, `a` the smaller one, and their contact.
+/// Two names in contact.
 #[derive(Clone, Copy, Debug, PartialEq, Eq)]
 pub struct Edge {
+    /// The smaller name.
     pub a: u32,
+    /// The greater name.
     pub b: u32,
+    /// What the edges of the grid between their voxels make together.
     pub contact: Contact,
 }
 
@@ -61,16 +67,14 @@ impl Edge {
         }
     }
 
-    /// A number that is smaller, the earlier the edge stands in a graph.
+    /// A number that is smaller, the earlier the edge stands in a graph, and the same between the same two names.
     pub(crate) fn order(&self) -> u64
         ensures value { result ≡ order_of self.now }
         ensures fits { IsFit self.now }
     {
-        let a = self.a;
-        let b = self.b;
         // what a contact knows of its count
         let _ = self.contact.count();
-        (u64::from(a) << 32) + u64::from(b)
+        pair_key(self.a, self.b)
     }
 }
 
@@ -96,7 +100,9 @@ impl Model for Graph {
 /// The two lists of a graph.
 #[derive(Drop)]
 pub struct Parts {
+    /// The regions, by ascending name.
     pub regions: Vec<Region>,
+    /// The edges, by ascending names of their ends.
     pub edges: Vec<Edge>,
 }
 
@@ -145,6 +151,8 @@ impl Graph {
 /// The graph of the names that a node passes to its parent.
 #[derive(Drop)]
 pub struct Residue {
+    /// The number of the node.
     pub node: u32,
+    /// The names, and the contacts among them that the edges inside its cell make.
     pub graph: Graph,
 }

@@ -19,7 +19,13 @@ use agglo_model::Memory;
 use seg_base::{Cell, Dims, Labels};
 use std::alloc::Global;
 
-/// The graph of all names in the cell of leaf `m`, by the labels that the work starts from.
+/// The graph of all names in the cell of leaf `m`, by the labels that the work starts from: each name with the
+/// artificial faces that it touches, and for each two names the contact that the edges with both ends in the cell
+/// make. Fails for want of memory alone.
+///
+/// It is the part inside one cell of the watershed basin graph of Zlateski and Seung, Image segmentation by
+/// size-dependent single linkage clustering of a watershed basin graph, arXiv 1505.00249 (2015), with sums and
+/// counts of affinities, since regions are merged by the mean.
 pub fn of_leaf(alloc: Global, site: &Site, m: u32) -> Result<Graph, Memory>
     requires { m < cells_at site.now.cutting 0 }
     ensures { IfOk result (λ graph. IsCellGraph site.now.grid site.now.cutting m site.now.labels graph) }

@@ -8,6 +8,7 @@
 
 mod contacts;
 mod graph;
+mod keys;
 mod leaf;
 mod names;
 mod recent;
@@ -18,6 +19,7 @@ mod tests;
 
 pub use contacts::add_contacts;
 pub use graph::{Edge, Graph, Parts, Region, Residue};
+pub use keys::pair_key;
 pub use leaf::of_leaf;
 pub use site::Site;
 pub use sums::{join_regions, sum_contacts};

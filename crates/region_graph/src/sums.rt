@@ -7,7 +7,7 @@ use crate::graph::{Edge, Region};
 use agglo_model::Memory;
 use std::alloc::Global;
 
-/// Sorts edges by their two names, and adds up those between the same two.
+/// Sorts edges by their two names, and adds up those between the same two. Fails for want of memory alone.
 pub fn sum_contacts(alloc: Global, mut edges: Vec<Edge>) -> Result<Vec<Edge>, Memory>
     requires within { count_of edges.items ≤ most_edges }
     requires ordered { AreOrdered edges.items }
@@ -63,7 +63,7 @@ pub(crate) fn add_edge_at(edges: &mut Vec<Edge>, place: usize, edge: Edge) -> Re
     Ok(end)
 }
 
-/// Sorts regions by name, and puts together the faces of those of one name.
+/// Sorts regions by name, and puts together the faces of those of one name. Fails for want of memory alone.
 pub fn join_regions(alloc: Global, mut regions: Vec<Region>) -> Result<Vec<Region>, Memory>
     ensures ascend { IfOk result (λ joined. AllPairs (λ r s. r.name < s.name) joined.items) }
     ensures named { IfOk result (λ joined. AreNamed regions.items → AreNamed joined.items) }

@@ -10,7 +10,7 @@ use seg_io::{Desk, Failed, fill};
 use std::alloc::Global;
 
 /// How many bytes of a body are read at a time.
-const PIECE_LENGTH: usize = 1 << 18;
+const READ_LENGTH: usize = 1 << 18;
 
 /// Reads the body that follows this header, up to the end of the input.
 ///
@@ -41,7 +41,7 @@ fn read_bytes<D: Desk>(alloc: Global, desk: &mut D, length: usize) -> Result<Vec
     let mut bytes = Vec::with_capacity(alloc, length)?;
     while bytes.len() < length {
         let before = bytes.len();
-        let count = PIECE_LENGTH.min(length - before);
+        let count = READ_LENGTH.min(length - before);
         let got = append_piece(desk, &mut bytes, count)?;
         if got < count {
             return Err(VolumeFault::Truncated((before + got) as u32));

@@ -25,12 +25,7 @@ trimmed_carries c =
 
 pairing_is : (c : After-is_empty) → IsPairing c.args.threshold.now c.args.frozen c.in_ok-graph.graph.regions.items c.in_ok-graph.graph.links.items
     c.in_ok-pairing.pairing.mates.items c.in_ok-pairing.pairing.pairs.items
-pairing_is c =
-    let mates : List ℕ = c.in_ok-pairing.pairing.mates.items in
-    let pairs : List Link = c.in_ok-pairing.pairing.pairs.items in
-    subst (λ rs. IsPairing c.args.threshold.now c.args.frozen rs c.in_ok-graph.graph.links.items mates pairs) c.deref-in-loop-merges.ensures.value
-    (subst (λ ls. IsPairing c.args.threshold.now c.args.frozen c.deref-in-loop-merges.result.now ls mates pairs) c.deref-in-loop-merges-2.ensures.value
-    c.in_ok-pairing.ensures)
+pairing_is c = c.in_ok-pairing.ensures
 
 is_zero : (n : ℕ) → true ≡ eqb n 0 → n ≡ 0
 is_zero n test = grind (arith, nat_tests)
@@ -65,9 +60,9 @@ merged_is : (c : In_ok-graph-2) → AreMerged c.in_ok-graph.graph.regions.items 
 merged_is c =
     let kept : List Region = c.in_ok-graph-2.graph.regions.items in
     let joined : List Link = c.in_ok-graph-2.graph.links.items in
-    subst (λ rs. AreMerged rs c.in_ok-graph.graph.links.items c.in_ok-pairing.pairing.mates.items kept joined) c.deref-in-loop-merges-6.ensures.value
-    (subst (λ ls. AreMerged c.deref-in-loop-merges-6.result.now ls c.in_ok-pairing.pairing.mates.items kept joined) c.deref-in-loop-merges-7.ensures.value
-    (subst (λ ms. AreMerged c.deref-in-loop-merges-6.result.now c.deref-in-loop-merges-7.result.now ms kept joined) c.deref-in-loop-merges-8.ensures.value
+    subst (λ rs. AreMerged rs c.in_ok-graph.graph.links.items c.in_ok-pairing.pairing.mates.items kept joined) c.deref-in-loop-merges-4.ensures.value
+    (subst (λ ls. AreMerged c.deref-in-loop-merges-4.result.now ls c.in_ok-pairing.pairing.mates.items kept joined) c.deref-in-loop-merges-5.ensures.value
+    (subst (λ ms. AreMerged c.deref-in-loop-merges-4.result.now c.deref-in-loop-merges-5.result.now ms kept joined) c.deref-in-loop-merges-6.ensures.value
     c.in_ok-graph-2.ensures))
 
 pub loop-merges-smaller : goal.loop-merges-smaller
@@ -96,7 +91,7 @@ loop-merges-preserved c =
     let start = graph_of c.args.start.regions.items c.args.start.links.items in
     let noted : c.note_merges.new.merges.items ≡ c.loop-merges.merges.items ++ map (merge_of regions) pairs.items =
     c.in_ok-note_merges.ensures
-    ∙ (λ i. c.loop-merges.merges.items ++ map (merge_of (c.deref-in-loop-merges-4.ensures.value i)) (c.deref-in-loop-merges-5.ensures.value i)) in
+    ∙ (λ i. c.loop-merges.merges.items ++ map (merge_of (c.deref-in-loop-merges-2.ensures.value i)) (c.deref-in-loop-merges-3.ensures.value i)) in
     let before = c.loop-merges.invariant.fewer in
     let after = c.in_ok-graph.ensures.fewer in
     let least = merged.fewer in
@@ -116,7 +111,7 @@ merge_mates-requires-clause-back c =
     let regions : List Region = c.in_ok-graph.graph.regions.items in
     let mates : List ℕ = c.in_ok-pairing.pairing.mates.items in
     let pairing = pairing_is (goal.at.merge_mates-requires-clause-back c).After-is_empty in
-    subst (λ ms. AreMutual ms (length c.deref-in-loop-merges-6.result.now)) (sym c.deref-in-loop-merges-8.ensures.value)
-    (subst (λ rs. AreMutual mates (length rs)) (sym c.deref-in-loop-merges-6.ensures.value)
+    subst (λ ms. AreMutual ms (length c.deref-in-loop-merges-4.result.now)) (sym c.deref-in-loop-merges-6.ensures.value)
+    (subst (λ rs. AreMutual mates (length rs)) (sym c.deref-in-loop-merges-4.ensures.value)
     (AreMutual-pairing c.args.threshold.now c.args.frozen regions c.in_ok-graph.graph.links.items mates
     c.in_ok-pairing.pairing.pairs.items c.in_ok-graph.ensures.linked pairing))
