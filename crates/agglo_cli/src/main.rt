@@ -1,7 +1,7 @@
 //! The program: the top call, and a desk over the real world.
 //!
-//! It stands on the crates that read, segment and write, and nothing stands on it. `top_call::agglo` is the program as a function over any
-//! desk, with all that is proved of it; `main` runs it over the real one.
+//! It stands on the crates that read, segment and write, and nothing stands on it. `top_call::agglo` is the
+//! program as a function over any desk, with all that is proved of it; `main` runs it over the real one.
 #![tactic(auto)]
 
 mod file_desk;

@@ -1,5 +1,5 @@
 ghost use Rattle.std.specs.Prelude.{◌≡◌, ◌+◌, ◌-◌, ◌<◌, ◌≤◌, [], List, IfOk, length};
-ghost use Rattle.agglo_model.specs.Cutting.{child_count, first_node, last_level, level_of, node_count};
+ghost use Rattle.agglo_model.specs.Cutting.{child_count, level_of, node_count};
 ghost use Rattle.agglo_model.specs.Greedy.{Merge};
 ghost use Rattle.agglo_model.specs.Report.{Level};
 ghost use Rattle.parent_join.specs.Kids.{graphs_of};
@@ -11,20 +11,6 @@ use agglo_model::Memory;
 use chunk_tree::Cutting;
 use region_graph::{Graph, Residue, Site};
 use std::alloc::Global;
-
-/// The node after the last one of a level, of which `first` is the first.
-pub(crate) fn level_end(cutting: &Cutting, level: u32, first: u32) -> u32
-    requires level { level ≤ last_level cutting.now }
-    requires first { first ≡ first_node cutting.now level }
-    ensures { result ≡ first_node cutting.now (level + 1) }
-{
-    for m in first..cutting.nodes() {
-        if cutting.level_of(m) != level {
-            return m;
-        }
-    }
-    cutting.nodes()
-}
 
 /// Hands the nodes of a level out to lanes, in turns, each with the residues of its children, which no longer
 /// wait. The nodes are those from `first` up to `end`, of which there is one.

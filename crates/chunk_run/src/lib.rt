@@ -1,7 +1,8 @@
 //! The work of all nodes of a cutting, level by level, the nodes of a level in several lanes at a time.
 //!
-//! It stands on `parent_join`, `mutual_merge` and `merge_tree` for the work of a node, and on `work_laws` for
-//! why nodes of one level may be worked in any order. The runs of the program stand on it.
+//! It stands on `region_graph`, `parent_join`, `mutual_merge` and `merge_tree` for the work of a node, on
+//! `chunk_tree` for the nodes, and on `work_laws` for why those of one level may be worked in any order.
+//! `segment_run` stands on it.
 #![tactic(auto)]
 
 mod count;

@@ -6,7 +6,6 @@ ghost use Rattle.chunk_run.specs.Lanes.{HasRun};
 
 use crate::count::LevelCount;
 use crate::gate::Gate;
-use crate::handing::level_end;
 use crate::progress::Progress;
 use agglo_model::Memory;
 use merge_tree::Merge;
@@ -42,7 +41,7 @@ pub fn run_tree<R: Threads + Sync, G: Gate>(
     let mut progress = Progress::new(alloc, cutting.levels())?;
     let mut first = 0;
     for level in 0..cutting.levels() {
-        let end = level_end(cutting, level, first);
+        let end = cutting.level_end(level);
         progress.work_level(rt, alloc, site, first, end, workers, gate)?;
         first = end;
     }

@@ -2,6 +2,7 @@ use crate::{Gate, LevelCount, run_tree};
 use agglo_model::laws_of_nodes::basins_are_connected;
 use chunk_tree::Cutting;
 use mean_fraction::Threshold;
+use merge_tree::Merge;
 use region_graph::Site;
 use seg_base::Dims;
 use std::sync::atomic::{AtomicU32, Ordering};
@@ -29,9 +30,8 @@ impl Gate for Counting {
     }
 }
 
-/// Eight voxels in a row, of which the first six are one leaf and the last two another.
-#[test]
-fn a_row_in_two_lanes(rt: HostRuntime) -> Result<(), Fail> {
+/// Eight voxels in a row.
+fn row(rt: &HostRuntime) -> Result<Volume, Fail> {
     let dims = Dims::new(8, 1, 1)?;
     let mut body = Vec::new(rt.alloc());
     for byte in [0, 200, 100, 200, 90, 200, 100, 200] {
@@ -40,7 +40,29 @@ fn a_row_in_two_lanes(rt: HostRuntime) -> Result<(), Fail> {
     if body.len() != dims.body_len() as usize {
         return Err("the bytes are too few or too many".into());
     }
-    let vol = Volume::of(Head { dims, version: 1 }, body);
+    Ok(Volume::of(Head { dims, version: 1 }, body))
+}
+
+/// Merges in plain numbers: survivor, absorbed, and the sum, the count and the tie of the contact.
+fn in_numbers(rt: &HostRuntime, merges: &[Merge]) -> Result<Vec<[u64; 5]>, Fail> {
+    let mut numbers = Vec::new(rt.alloc());
+    for merge in merges {
+        let contact = merge.contact;
+        numbers.push([
+            u64::from(merge.survivor),
+            u64::from(merge.absorbed),
+            contact.sum(),
+            contact.count(),
+            u64::from(contact.tie()),
+        ])?;
+    }
+    Ok(numbers)
+}
+
+/// The first six voxels are one leaf and the last two another.
+#[test]
+fn a_row_in_two_lanes(rt: HostRuntime) -> Result<(), Fail> {
+    let vol = row(&rt)?;
     let labels = whole_basins(rt.alloc(), &vol, 1)?;
     let cutting = Cutting::new(vol.dims(), [6, 1, 1])?;
     basins_are_connected();
@@ -50,17 +72,7 @@ fn a_row_in_two_lanes(rt: HostRuntime) -> Result<(), Fail> {
         strays: AtomicU32::new(0),
     };
     let run = run_tree(&rt, rt.alloc(), &site, 2, &gate)?;
-    let mut merges = Vec::new(rt.alloc());
-    for merge in &run.merges {
-        let contact = merge.contact;
-        merges.push([
-            u64::from(merge.survivor),
-            u64::from(merge.absorbed),
-            contact.sum(),
-            contact.count(),
-            u64::from(contact.tie()),
-        ])?;
-    }
+    let merges = in_numbers(&rt, &run.merges)?;
     let wanted = [[1, 3, 100, 1, 6], [5, 7, 100, 1, 18], [1, 5, 90, 1, 12]];
     assert_eq!(rt; merges.as_slice(), wanted.as_slice());
     assert_eq!(rt; run.worked.as_slice(), [0, 1, 2].as_slice());

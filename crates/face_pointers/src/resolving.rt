@@ -28,8 +28,11 @@ pub fn climb_leaf(
     climb(alloc, vol, low, &cutting.cell(leaf))
 }
 
-/// The basin labels of a volume, from the ends of the ascents within the leaves of a cutting, in several
-/// threads.
+/// The basin labels of a volume, one for each voxel in order of number, from the ends of the ascents within
+/// the leaves of a cutting. The pieces are those of all leaves, in order of number. Basins are those of
+/// Zlateski and Seung, arXiv 1505.00249 (2015); that what a chunk cannot tell waits for its neighbours is
+/// after Lu, Zlateski and Seung, arXiv 2106.10795 (2021). It works in several threads. The only error is want
+/// of memory.
 pub fn resolve<R: Threads + Sync>(
     rt: &R,
     alloc: Global,
@@ -47,7 +50,8 @@ pub fn resolve<R: Threads + Sync>(
     resolve_into(rt, alloc, vol, low, cutting, pieces, room)
 }
 
-/// The same, in a list with room for a label of each voxel.
+/// The same as `resolve`, in a list that has a place for the label of each voxel; what stood there does not
+/// matter. Where memory runs out, which is the only error, the list is given up.
 pub fn resolve_into<R: Threads + Sync>(
     rt: &R,
     alloc: Global,

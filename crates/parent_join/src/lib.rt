@@ -2,7 +2,7 @@
 //! contacts across the faces between them.
 //!
 //! It stands on `region_graph`, whose lists it gathers and sums up, on `chunk_tree` for the cells of children, and
-//! on lemmas of `work_laws`. The run over all nodes stands on it.
+//! on lemmas of `work_laws`. `chunk_run` stands on it.
 #![tactic(auto)]
 
 mod across;

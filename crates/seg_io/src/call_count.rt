@@ -21,6 +21,7 @@ impl Model for CallCount {
 }
 
 impl CallCount {
+    /// No call was made, and none is to fail.
     pub fn new(alloc: Global) -> CallCount
         ensures { result ≡ no_calls }
     {

@@ -25,6 +25,7 @@ impl Model for StoredFile {
 }
 
 impl StoredFile {
+    /// A file of this name with a copy of these bytes.
     fn new(alloc: Global, name: &str, bytes: &[u8]) -> Result<StoredFile, Memory>
         ensures { MatchResult result
             (λ file. file ≡ record { name = name.now; bytes = bytes.now })
@@ -36,12 +37,14 @@ impl StoredFile {
         })
     }
 
+    /// Whether this is its name.
     fn is_named(&self, name: &str) -> bool
         ensures { result ≡ bytes_eq self.now.name name.now }
     {
         self.name.as_str() == name
     }
 
+    /// All its bytes.
     fn bytes(&self) -> &[u8]
         ensures { result.now ≡ self.now.bytes }
     {
@@ -78,6 +81,7 @@ impl Model for InputFiles {
 }
 
 impl InputFiles {
+    /// No file, and no input.
     pub fn new(alloc: Global) -> InputFiles
         ensures { result ≡ record { files = []; has_input = false; left = [] } }
     {

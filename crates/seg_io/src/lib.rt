@@ -2,7 +2,8 @@
 //! each may fail. Above it the calls that go on until a piece is whole (`fill`, `put_all`,
 //! `Piecer`) and the numbers in files, and below it a desk in memory.
 //!
-//! It stands on agglo_model alone; the readers and writers of files and the program stand on it.
+//! It stands on `agglo_model`, which says what the numbers in files mean, and on `byteorder`, which reads them.
+//! The readers and writers of files (`volume_file`, `merge_tree`), `refusals` and the program stand on it.
 #![tactic(auto)]
 
 mod call_count;

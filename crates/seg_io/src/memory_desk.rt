@@ -17,17 +17,24 @@ use std::marker::Model;
 /// The calls of a desk, a kind for each count of its own.
 #[derive(Clone, Copy, Debug, PartialEq, Eq)]
 pub enum CallKind {
+    /// `Desk::open_in`.
     OpenIn,
+    /// `Desk::read`.
     Read,
+    /// `Desk::open_out`, on whichever port.
     OpenOut,
+    /// `Desk::write` on this port.
     Write(Port),
 }
 
 /// The sides of a desk that count faults.
 #[derive(Clone, Copy, Debug, PartialEq, Eq)]
 pub enum Side {
+    /// The input: it is opened and read.
     Input,
+    /// The ports but for Trouble: they are opened and written.
     Output,
+    /// The port Trouble, which is written.
     Trouble,
 }
 

@@ -24,12 +24,14 @@ impl Model for OpenedPort {
 }
 
 impl OpenedPort {
+    /// Whether it is this port.
     fn is_of(&self, port: Port) -> bool
         ensures { IsTrue result ↔ (self.now.port ≡ port) }
     {
         self.port == port
     }
 
+    /// The name that it was opened under.
     fn name(&self) -> &str
         ensures { result.now ≡ self.now.name }
     {
@@ -62,6 +64,7 @@ impl Model for OpenedPorts {
 }
 
 impl OpenedPorts {
+    /// No port, and room for so many bytes in each name.
     pub fn new(alloc: Global, room: usize) -> Result<OpenedPorts, AllocError>
         ensures { IfOk result (λ opened. opened ≡ record { list = []; room = room }) }
     {
@@ -73,6 +76,7 @@ impl OpenedPorts {
         Ok(OpenedPorts { list, spare, room })
     }
 
+    /// How many ports were opened.
     pub fn len(&self) -> usize
         ensures count { result ≡ length self.now.list }
         ensures few { result ≤ 3 }
@@ -87,6 +91,7 @@ impl OpenedPorts {
         name.len() > self.room
     }
 
+    /// Adds a port that was not opened before, with the name that it is opened under.
     pub fn push(&mut self, port: Port, name: &str)
         requires fresh { IsFresh port self.old.list }
         requires short { length name.now ≤ self.old.room }

@@ -27,6 +27,7 @@ impl Model for Output {
 }
 
 impl Output {
+    /// Nothing written, and room for so many bytes.
     pub fn new(alloc: Global, room: usize) -> Result<Output, AllocError>
         ensures { IfOk result (λ output. output ≡ new_output room) }
     {
@@ -38,6 +39,7 @@ impl Output {
         })
     }
 
+    /// What was written.
     pub fn bytes(&self) -> &[u8]
         ensures { result.now ≡ self.now.bytes }
     {
@@ -98,6 +100,7 @@ impl Model for Outputs {
 }
 
 impl Outputs {
+    /// Nothing written, and room for so many bytes on each port.
     pub fn new(alloc: Global, room: usize) -> Result<Outputs, AllocError>
         ensures { IfOk result (λ outputs. outputs ≡ new_outputs room) }
     {
@@ -110,6 +113,7 @@ impl Outputs {
         })
     }
 
+    /// What was written on one port.
     pub fn bytes(&self, port: Port) -> &[u8]
         ensures { result.now ≡ (output_at port self.now).bytes }
     {

@@ -1,9 +1,14 @@
-/// Where the program writes: three files, standard output (`Note`) and standard error (`Trouble`).
+/// Where the program writes.
 #[derive(Clone, Copy, Debug, PartialEq, Eq)]
 pub enum Port {
+    /// The file of labels.
     Labels,
+    /// The file of a merge tree.
     Tree,
+    /// The file of a generated volume.
     Volume,
+    /// Standard output.
     Note,
+    /// Standard error.
     Trouble,
 }

@@ -1,9 +1,8 @@
-use Rattle.std.proofs.Common.{◌≡◌, ◌+◌, ◌-◌, ◌%◌, ◌<◌, ◌≤◌, [], ◌∷◌, ◌++◌, length, refl, sym, ap, ◌∙◌, subst, length-set, arith}
+use Rattle.std.proofs.Common.{◌-◌, ◌%◌, ◌<◌, [], ◌∷◌, ◌++◌, length, refl, sym, ap, ◌∙◌, subst, length-set, arith}
 use Rattle.std.specs.Prelude.{slice_set}
 use Rattle.std.proofs.lemmas.Nat.{mod_below}
-use Rattle.agglo_model.specs.Cutting.{Chunking, child_count, level_of}
 use Rattle.parent_join.specs.Kids.{graphs_of}
-use Rattle.chunk_run.specs.Turns.{AreTaken, AreThere}
+use Rattle.chunk_run.specs.Turns.{AreThere}
 use Rattle.chunk_run.specs.declared.lanes.Job.{Job}
 use Rattle.chunk_run.specs.declared.lanes.Lane.{Lane}
 use Rattle.chunk_run.specs.Lanes.{jobs_in}

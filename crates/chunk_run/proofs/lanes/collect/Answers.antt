@@ -1,4 +1,4 @@
-use Rattle.std.proofs.Common.{◌≡◌, ◌++◌, [], ◌∷◌, Ok, sym, subst}
+use Rattle.std.proofs.Common.{◌++◌, [], ◌∷◌, Ok, sym, subst}
 use Rattle.chunk_run.specs.Lanes.{ArePartsDone}
 use Rattle.chunk_run.proofs.Parts.{parts_more}
 use Rattle.chunk_run.proofs.lanes.collect.Goals as goal

@@ -1,4 +1,4 @@
-use Rattle.std.proofs.Common.{◌≡◌, rules, get_or, IfOk, sym, ap, subst, ◌∙◌}
+use Rattle.std.proofs.Common.{rules, get_or, IfOk, sym, subst}
 use Rattle.std.specs.List.{AllZip}
 use Rattle.std.proofs.lemmas.Result.{MatchResult-weaker}
 use Rattle.chunk_run.specs.declared.lanes.Lane.{Lane}

@@ -1,5 +1,5 @@
-use Rattle.std.proofs.Common.{◌≡◌, suc, ◌+◌, ◌-◌, ◌<◌, ◌≤◌, [], replicate, refl, sym, ap, ◌∙◌, subst, arith}
-use Rattle.agglo_model.specs.Cutting.{Chunking, first_node, last_level, level_of, node_count}
+use Rattle.std.proofs.Common.{◌≡◌, suc, ◌+◌, ◌-◌, [], replicate, refl, sym, ap, ◌∙◌, subst, arith}
+use Rattle.agglo_model.specs.Cutting.{Chunking, first_node, last_level, node_count}
 use Rattle.agglo_model.proofs.Levels.{cells_at_pos, first_node_le, level_of-is}
 use Rattle.chunk_run.specs.Turns.{HasWorked, no_node}
 use Rattle.chunk_run.specs.Lanes.{HasRun}
@@ -26,7 +26,7 @@ pub work_level-requires-clause-some : goal.work_level-requires-clause-some
 work_level-requires-clause-some g c κs within =
     let t : Chunking = c.args.site.now.cutting in
     let end : c.level_end-end.result ≡ first_node t (c.loop-level.level + 1) =
-    c.level_end-end.ensures ∙ ap (λ u. first_node u (c.loop-level.level + 1)) c.cutting-cutting.ensures.value in
+    c.level_end-end.ensures.value ∙ ap (λ u. first_node u (c.loop-level.level + 1)) c.cutting-cutting.ensures.value in
     let next : c.loop-level.level + 1 ≡ suc c.loop-level.level = omega arith in
     let more = ap (first_node t) next in
     omega (arith, end, more, cells_at_pos t c.cutting-cutting.ensures.site.chunking c.loop-level.level, c.loop-level.invariant.0)
@@ -35,7 +35,7 @@ pub work_level-requires-clause-nodes : goal.work_level-requires-clause-nodes
 work_level-requires-clause-nodes g c κs within =
     let t : Chunking = c.args.site.now.cutting in
     let end : c.level_end-end.result ≡ first_node t (c.loop-level.level + 1) =
-    c.level_end-end.ensures ∙ ap (λ u. first_node u (c.loop-level.level + 1)) c.cutting-cutting.ensures.value in
+    c.level_end-end.ensures.value ∙ ap (λ u. first_node u (c.loop-level.level + 1)) c.cutting-cutting.ensures.value in
     let levels = c.levels-level-end.ensures.value ∙ ap (λ u. last_level u + 1) c.cutting-cutting.ensures.value in
     let most = first_node_le t (c.loop-level.level + 1) (suc (last_level t)) (omega (arith, levels)) in
     omega (arith, end, most)
@@ -45,7 +45,7 @@ work_level-requires-clause-one_level g c κs within =
     let t : Chunking = c.args.site.now.cutting in
     let k = c.loop-level.level in
     let end : c.level_end-end.result ≡ first_node t (k + 1) =
-    c.level_end-end.ensures ∙ ap (λ u. first_node u (k + 1)) c.cutting-cutting.ensures.value in
+    c.level_end-end.ensures.value ∙ ap (λ u. first_node u (k + 1)) c.cutting-cutting.ensures.value in
     let levels = c.levels-level-end.ensures.value ∙ ap (λ u. last_level u + 1) c.cutting-cutting.ensures.value in
     let next : k + 1 ≡ suc k = omega arith in
     let more = ap (first_node t) next in

@@ -1,4 +1,4 @@
-use Rattle.std.proofs.Common.{◌≡◌, ◌+◌, ◌-◌, ◌≤◌, List, length, Option, sym, ap, ◌∙◌, subst, arith}
+use Rattle.std.proofs.Common.{◌≡◌, ◌+◌, List, length, Option, sym, ap, ◌∙◌, subst, arith}
 use Rattle.std.proofs.lemmas.Result.{MatchResult-weaker}
 use Rattle.agglo_model.specs.RegionGraph.{RegionGraph}
 use Rattle.chunk_run.specs.Lanes.{AreHandedOut, HasRun, HasTaken, IsReady, jobs_in, kid_lists}
