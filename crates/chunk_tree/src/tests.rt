@@ -45,6 +45,8 @@ fn two_leaves_under_a_root(rt: HostRuntime) -> Result<(), Fail> {
 #[test]
 fn cells_of_two_leaves_and_a_root(rt: HostRuntime) -> Result<(), Fail> {
     let cutting = cut(8, 1, 1, [6, 1, 1])?;
+    let nodes = cutting.nodes();
+    assert!(rt; nodes == 3);
     assert_eq!(rt;
         cutting.cell(0),
         Cell {
