@@ -1,10 +1,10 @@
 -- The states of a desk whose input is read as a volume that is to be cut: the header, and then the body.
-use Rattle.std.proofs.Common.{◌≡◌, ◌==◌, ℕ, ◌+◌, ◌^◌, ◌<◌, nat_lt, Bool, true, false, List, drop, slice_index, Option, Some, None, IfSome, refl, sym, ap, subst, ◌∙◌, arith, if◌then◌else◌}
+use Rattle.std.proofs.Common.{◌≡◌, ◌==◌, ℕ, ◌+◌, ◌<◌, ◌≤◌, Bool, true, false, List, ◌++◌, drop, slice_index, Option, Some, None, IfSome, is_some, refl, sym, ap, subst, ◌∙◌, arith, if◌then◌else◌}
 use Rattle.std.specs.Option.{option_map, option_or, option_and_then}
 use Rattle.std.proofs.lemmas.Bool.Decides.{nat_tests}
 use Rattle.agglo_model.specs.Axes.{Axes, edge_count}
 use Rattle.agglo_model.specs.Grid.{Grid}
-use Rattle.agglo_model.specs.Cutting.{Chunking, SizesFlaw, ChunkZero, TooManyLeaves, sizes_flaw, chunking, cells_at}
+use Rattle.agglo_model.specs.Cutting.{Chunking, SizesFlaw, ChunkZero, TooManyLeaves, sizes_flaw, chunking}
 use Rattle.agglo_model.specs.VolumeFile.{VolumeFlaw, header_length, header_axes, header_flaw, body, body_flaw}
 use Rattle.chunk_tree.specs.Flaw.{flaw_of}
 use Rattle.chunk_tree.specs.declared.cutting.CutFault.{CutFault}
@@ -14,15 +14,16 @@ use Rattle.seg_io.specs.Desk.{DeskState, taken, OpensInput}
 use Rattle.volume_file.specs.declared.fault.VolumeFault.{VolumeFault}
 use Rattle.volume_file.specs.declared.fault.VolumeFault.TheVariants.{ShortHeader, Magic, Channels, Reserved, AxisZero, AxisLarge, TooMany, Truncated, Trailing, Read, Memory}
 use Rattle.volume_file.specs.Fault.{fault_of}
-use Rattle.volume_file.specs.Reading.{ReadsHead, FindsBadHead, FailsToReadHead, ReadsBody, FindsBadBody, FailsToReadBody}
-use Rattle.seg_io.proofs.InputStates.{fails_later}
-use Rattle.volume_file.proofs.Whole.{reads_volume as whole_volume}
+use Rattle.volume_file.specs.Reading.{IsHeader, Tells, ReadsHead, FindsBadHead, FailsToReadHead, ReadsBody, FindsBadBody, FailsToReadBody, judged_length}
+use Rattle.seg_io.proofs.States.{for_some, taken-taken}
+use Rattle.seg_io.proofs.InputStates.{fails_later, fails_sooner}
+use Rattle.volume_file.proofs.Whole.{judged_after, whole_of, reads_volume as whole_volume}
 use Rattle.refusals.specs.declared.refusal.Refusal.{Refusal}
 use Rattle.refusals.specs.declared.refusal.Refusal.TheVariants.{Volume, Leaves}
 use Rattle.refusals.specs.Refusal.{volume_refusal}
 use Rattle.agglo_cli.specs.Answers.{ReadsCutVolume}
-use Rattle.agglo_cli.specs.Flaws.{IsCutFlaw, volume_flaw_refusal, sizes_refusal, leaves_refusal, segment_refusal, RefusesInput, RefusesNumbers}
-use Rattle.agglo_cli.proofs.ReadFile.{if_some, if_both, any_bytes, opens_file, fails_to_read, reads_volume, told_flaw}
+use Rattle.agglo_cli.specs.Flaws.{volume_flaw_refusal, sizes_refusal, leaves_refusal, segment_refusal, segment_judged, SomeBytesHave, RefusesInput, RefusesNumbers}
+use Rattle.agglo_cli.proofs.ReadFile.{if_some, if_both, any_bytes, opens_file, judges_file, fails_to_read, reads_volume, told_flaw}
 
 -- ---- the number of leaves
 
@@ -78,17 +79,35 @@ first_flaw : (flaw : Option VolumeFlaw) (later : Option Refusal) (fault : Volume
 first_flaw None later fault e = cc e
 first_flaw (Some flaw) later fault e = ap (option_map Volume) e
 
+-- where the header has a flaw, nothing after it is taken
+head_judged : (leaves : Option Refusal) (flaw : Option VolumeFlaw) (n : ℕ) (fault : VolumeFault) → option_map fault_of flaw ≡ Some fault
+    → header_length ≡ (if is_some leaves then header_length else (if is_some flaw then header_length else n))
+head_judged leaves None n fault e = cc e
+head_judged None (Some flaw) n fault e = refl
+head_judged (Some leaves) (Some flaw) n fault e = refl
+
+-- the header is always taken
+head_first : (leaves : Option Refusal) (flaw : Option VolumeFlaw) (n : ℕ)
+    → header_length ≤ (if is_some leaves then header_length else (if is_some flaw then header_length else (header_length + n)))
+head_first (Some leaves) flaw n = omega arith
+head_first None (Some flaw) n = omega arith
+head_first None None n = omega arith
+
 bad_head : (name chunk : List ℕ) (fault : VolumeFault) (s t u : DeskState) → OpensInput name s t → FindsBadHead fault t u
-    → RefusesInput IsCutFlaw (segment_refusal chunk) name (Volume fault) s u
+    → RefusesInput (segment_refusal chunk) (segment_judged chunk) name (Volume fault) s u
 bad_head name chunk fault s t u o f = (
-  tt,
-  opens_file name _ s t u _ o
-      (if_some t.input _ _ (λ bytes e. first_flaw (header_flaw bytes) _ fault e) f.flaw) f.after,
+  (f.possible.0, first_flaw (header_flaw f.possible.0) _ fault f.possible.1),
+  judges_file name _ (segment_judged chunk) header_length s t u o
+      (if_some t.input _ _ (λ bytes e. first_flaw (header_flaw bytes) _ fault e) f.flaw)
+      (if_some t.input _ (λ bytes. header_length ≡ segment_judged chunk bytes)
+      (λ bytes e. head_judged (leaves_refusal (header_axes bytes) chunk) (header_flaw bytes) _ fault e) f.flaw) f.after,
 )
 
 pub no_head : (name chunk : List ℕ) (fault : VolumeFault) (s t u : DeskState) → OpensInput name s t → FailsToReadHead fault t u
-    → RefusesInput IsCutFlaw (segment_refusal chunk) name (volume_refusal fault) s u
-no_head name chunk Read s t u o f = fails_to_read name s t u o f
+    → RefusesInput (segment_refusal chunk) (segment_judged chunk) name (volume_refusal fault) s u
+no_head name chunk Read s t u o f = fails_to_read (segment_judged chunk) name s t u o (fails_sooner (λ _. header_length) (segment_judged chunk) t u
+    (for_some t.input (λ bytes. header_length ≤ segment_judged chunk bytes)
+    (λ bytes. head_first (leaves_refusal (header_axes bytes) chunk) (header_flaw bytes) (edge_count (header_axes bytes) + 1))) f)
 no_head name chunk Memory s t u o f = absurd f
 no_head name chunk (ShortHeader got) s t u o f = bad_head name chunk _ s t u o f
 no_head name chunk Magic s t u o f = bad_head name chunk _ s t u o f
@@ -109,21 +128,32 @@ after_head axes chunk bytes sound says =
     ap (λ (f : Option VolumeFlaw). option_or (volume_flaw_refusal f) (option_or (leaves_refusal (header_axes bytes) chunk) (volume_flaw_refusal (body_flaw (header_axes bytes) (body bytes))))) sound
     ∙ ap (λ (a : Axes). option_or (leaves_refusal a chunk) (volume_flaw_refusal (body_flaw a (body bytes)))) (sym says)
 
+leaves_flaw : (axes : Axes) (chunk : List ℕ) (leaves : ℕ) (bytes : List ℕ) → leaves_refusal axes chunk ≡ Some (Leaves leaves)
+    → header_flaw bytes ≡ None → axes ≡ header_axes bytes → segment_refusal chunk bytes ≡ Some (Leaves leaves)
+leaves_flaw axes chunk leaves bytes e sound says = after_head axes chunk bytes sound says
+    ∙ ap (λ (l : Option Refusal). option_or l (volume_flaw_refusal (body_flaw axes (body bytes)))) e
+
+-- where there are too many leaves, nothing after the header is taken
+leaves_judged : (axes : Axes) (chunk : List ℕ) (leaves : ℕ) (bytes : List ℕ) → axes ≡ header_axes bytes
+    → leaves_refusal axes chunk ≡ Some (Leaves leaves) → header_length ≡ segment_judged chunk bytes
+leaves_judged axes chunk leaves bytes says e =
+    sym (ap (λ (l : Option Refusal). if is_some l then header_length else judged_length bytes) (ap (λ (a : Axes). leaves_refusal a chunk) (sym says) ∙ e))
+
 many_leaves : (name chunk : List ℕ) (axes : Axes) (leaves : ℕ) (s t u : DeskState) → OpensInput name s t → ReadsHead axes t u
     → leaves_refusal axes chunk ≡ Some (Leaves leaves)
-    → RefusesInput IsCutFlaw (segment_refusal chunk) name (Leaves leaves) s u
+    → RefusesInput (segment_refusal chunk) (segment_judged chunk) name (Leaves leaves) s u
 many_leaves name chunk axes leaves s t u o r e = (
-  tt,
-  opens_file name _ s t u _ o
-      (if_both t.input _ _ _ (λ bytes sound says. after_head axes chunk bytes sound says
-      ∙ ap (λ (l : Option Refusal). option_or l (volume_flaw_refusal (body_flaw axes (body bytes)))) e) r.sound r.says) r.after,
+  (r.header.0, leaves_flaw axes chunk leaves r.header.0 e r.header.1.sound r.header.1.says),
+  judges_file name _ (segment_judged chunk) header_length s t u o
+      (if_both t.input _ _ _ (λ bytes sound says. leaves_flaw axes chunk leaves bytes e sound says) r.sound r.says)
+      (if_some t.input _ (λ bytes. header_length ≡ segment_judged chunk bytes) (λ bytes says. leaves_judged axes chunk leaves bytes says e) r.says) r.after,
 )
 
 pub refused_leaves : (name chunk : List ℕ) (axes : Axes) (refusal : Refusal) (s t u : DeskState) → OpensInput name s t → ReadsHead axes t u
-    → leaves_refusal axes chunk ≡ Some refusal → RefusesInput IsCutFlaw (segment_refusal chunk) name refusal s u
+    → leaves_refusal axes chunk ≡ Some refusal → RefusesInput (segment_refusal chunk) (segment_judged chunk) name refusal s u
 refused_leaves name chunk axes refusal s t u o r e =
     let are = leaves_are (sizes_flaw axes chunk) refusal e in
-    subst (λ (f : Refusal). RefusesInput IsCutFlaw (segment_refusal chunk) name f s u) are.1
+    subst (λ (f : Refusal). RefusesInput (segment_refusal chunk) (segment_judged chunk) name f s u) are.1
     (many_leaves name chunk axes are.0 s t u o r (e ∙ ap (λ (f : Refusal). Some f) (sym are.1)))
 
 -- ---- a body
@@ -136,24 +166,51 @@ of_body (Some bytes) P h = h
 body_input : (axes : Axes) (t u : DeskState) (P : List ℕ → Type 0) → ReadsHead axes t u → IfSome u.input P → IfSome t.input (λ bytes. P (body bytes))
 body_input axes t u P r h = of_body t.input P (subst (λ (i : Option (List ℕ)). IfSome i P) (ap (λ (z : DeskState). z.input) r.after) h)
 
+-- where both are sound, all that the header claims is taken, and one byte more
+body_judged : (axes : Axes) (chunk : List ℕ) (t u : DeskState) → ReadsHead axes t u → leaves_refusal axes chunk ≡ None
+    → IfSome t.input (λ bytes. header_length + (edge_count axes + 1) ≡ segment_judged chunk bytes)
+body_judged axes chunk t u r few =
+    if_both t.input (λ bytes. axes ≡ header_axes bytes) (λ bytes. header_length + (edge_count axes + 1) ≡ judged_length bytes) _
+    (λ bytes says same. same ∙ sym (ap (λ (l : Option Refusal). if is_some l then header_length else judged_length bytes)
+    (ap (λ (a : Axes). leaves_refusal a chunk) (sym says) ∙ few)))
+    r.says (judged_after t.input axes r.sound r.says)
+
+only_body : (axes : Axes) (chunk bytes : List ℕ) → leaves_refusal axes chunk ≡ None → header_flaw bytes ≡ None → axes ≡ header_axes bytes
+    → segment_refusal chunk bytes ≡ volume_flaw_refusal (body_flaw axes (body bytes))
+only_body axes chunk bytes few sound says = after_head axes chunk bytes sound says
+    ∙ ap (λ (l : Option Refusal). option_or l (volume_flaw_refusal (body_flaw axes (body bytes)))) few
+
+-- the header with a body that has the flaw
+possible_after : (chunk : List ℕ) (axes : Axes) (fault : VolumeFault) → ((bytes : List ℕ) × IsHeader axes bytes) → leaves_refusal axes chunk ≡ None
+    → ((bytes : List ℕ) × Tells fault (body_flaw axes bytes)) → SomeBytesHave (segment_refusal chunk) (Volume fault)
+possible_after chunk axes fault head few rest =
+    let whole = whole_of axes head.0 rest.0 head.1 in (
+      head.0 ++ rest.0,
+      only_body axes chunk (head.0 ++ rest.0) few whole.0 whole.1.0
+          ∙ (ap (λ (bytes : List ℕ). volume_flaw_refusal (body_flaw axes bytes)) whole.1.1 ∙ told_flaw (body_flaw axes rest.0) fault rest.1),
+    )
+
 bad_body : (name chunk : List ℕ) (axes : Axes) (fault : VolumeFault) (s t u v : DeskState) → OpensInput name s t → ReadsHead axes t u
     → leaves_refusal axes chunk ≡ None → FindsBadBody axes fault u v
-    → RefusesInput IsCutFlaw (segment_refusal chunk) name (Volume fault) s v
+    → RefusesInput (segment_refusal chunk) (segment_judged chunk) name (Volume fault) s v
 bad_body name chunk axes fault s t u v o r few f =
     let flaw = body_input axes t u (λ bytes. option_map fault_of (body_flaw axes bytes) ≡ Some fault) r f.flaw in
     let judged = if_both t.input _ _ (λ bytes. segment_refusal chunk bytes ≡ volume_flaw_refusal (body_flaw axes (body bytes)))
-    (λ bytes sound says. after_head axes chunk bytes sound says
-    ∙ ap (λ (l : Option Refusal). option_or l (volume_flaw_refusal (body_flaw axes (body bytes)))) few) r.sound r.says in (
-      tt,
-      opens_file name _ s t v _ o
+    (λ bytes sound says. only_body axes chunk bytes few sound says) r.sound r.says in (
+      possible_after chunk axes fault r.header few f.possible,
+      judges_file name _ (segment_judged chunk) (header_length + (edge_count axes + 1)) s t v o
           (if_both t.input _ _ _ (λ bytes e k. e ∙ told_flaw (body_flaw axes (body bytes)) fault k) judged flaw)
-          (f.after ∙ ap (taken (edge_count axes + 1)) r.after),
+          (body_judged axes chunk t u r few)
+          (f.after ∙ (ap (taken (edge_count axes + 1)) r.after ∙ taken-taken header_length (edge_count axes + 1) t)),
     )
 
 pub no_body : (name chunk : List ℕ) (axes : Axes) (fault : VolumeFault) (s t u v : DeskState) → OpensInput name s t → ReadsHead axes t u
     → leaves_refusal axes chunk ≡ None → FailsToReadBody axes fault u v
-    → RefusesInput IsCutFlaw (segment_refusal chunk) name (volume_refusal fault) s v
-no_body name chunk axes Read s t u v o r few f = fails_to_read name s t v o (fails_later header_length t u v r.after f)
+    → RefusesInput (segment_refusal chunk) (segment_judged chunk) name (volume_refusal fault) s v
+no_body name chunk axes Read s t u v o r few f = fails_to_read (segment_judged chunk) name s t v o
+    (fails_later header_length (λ _. edge_count axes + 1) (segment_judged chunk) t u v r.after
+    (if_some t.input _ (λ bytes. header_length + (edge_count axes + 1) ≤ segment_judged chunk bytes) (λ bytes same. omega arith)
+    (body_judged axes chunk t u r few)) f)
 no_body name chunk axes Memory s t u v o r few f = opens_file name _ s t v _ o (any_bytes t.input) (f.after ∙ ap (taken f.count) r.after)
 no_body name chunk axes (Truncated got) s t u v o r few f = bad_body name chunk axes _ s t u v o r few f
 no_body name chunk axes Trailing s t u v o r few f = bad_body name chunk axes _ s t u v o r few f

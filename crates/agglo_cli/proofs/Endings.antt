@@ -1,5 +1,5 @@
 -- The statuses that a run of each task may end with.
-use Rattle.std.proofs.Common.{◌≡◌, ℕ, List, Contains, lit≤, refl, sym, subst}
+use Rattle.std.proofs.Common.{◌≡◌, ℕ, List, lit≤, refl, sym, subst}
 use Rattle.command_words.specs.Words.{Task, Basins, Segment, Make, Trial, Show, Spells, OneTask}
 use Rattle.seg_io.specs.Desk.{DeskState}
 use Rattle.refusals.specs.declared.refusal.Refusal.{Refusal}
@@ -7,6 +7,7 @@ use Rattle.refusals.specs.declared.refusal.Refusal.TheVariants.{Memory, Words, V
 use Rattle.refusals.specs.Refusal.{status_of}
 use Rattle.agglo_cli.specs.Flaws.{RefusesStart, MayEndWith}
 use Rattle.agglo_cli.specs.Run.{RefusesRun}
+use Rattle.agglo_cli.proofs.FlawKinds.{volume_kind, cut_kind, tree_kind}
 
 -- any task may be done, or end for want of memory, or for a fault of the outputs
 pub may_be_done : (task : Task) → MayEndWith task 0
@@ -36,14 +37,14 @@ starts task Memory s t f = may_lack_memory task
 starts task Output s t f = may_stop task
 starts (Basins settings) (Volume fault) s t f = (2, lit≤ tt, refl)
 starts (Basins settings) Input s t f = (3, lit≤ tt, refl)
-starts (Basins settings) Words s t f = absurd f.0
-starts (Basins settings) (Leaves leaves) s t f = absurd f.0
-starts (Basins settings) (Tree fault) s t f = absurd f.0
+starts (Basins settings) Words s t f = absurd (volume_kind Words f.0)
+starts (Basins settings) (Leaves leaves) s t f = absurd (volume_kind (Leaves leaves) f.0)
+starts (Basins settings) (Tree fault) s t f = absurd (volume_kind (Tree fault) f.0)
 starts (Segment settings) (Volume fault) s t f = (2, lit≤ tt, refl)
 starts (Segment settings) (Leaves leaves) s t f = (3, lit≤ tt, refl)
 starts (Segment settings) Input s t f = (4, lit≤ tt, refl)
-starts (Segment settings) Words s t f = absurd f.0
-starts (Segment settings) (Tree fault) s t f = absurd f.0
+starts (Segment settings) Words s t f = absurd (cut_kind settings.chunk Words f.0)
+starts (Segment settings) (Tree fault) s t f = absurd (cut_kind settings.chunk (Tree fault) f.0)
 starts (Make settings) (Leaves leaves) s t f = cc f.0
 starts (Make settings) Words s t f = absurd f
 starts (Make settings) (Volume fault) s t f = absurd f
@@ -56,9 +57,9 @@ starts (Trial settings) Input s t f = absurd f
 starts (Trial settings) (Tree fault) s t f = absurd f
 starts (Show tree) Input s t f = (2, lit≤ tt, refl)
 starts (Show tree) (Tree fault) s t f = (4, lit≤ tt, refl)
-starts (Show tree) Words s t f = absurd f.0
-starts (Show tree) (Volume fault) s t f = absurd f.0
-starts (Show tree) (Leaves leaves) s t f = absurd f.0
+starts (Show tree) Words s t f = absurd (tree_kind Words f.0)
+starts (Show tree) (Volume fault) s t f = absurd (tree_kind (Volume fault) f.0)
+starts (Show tree) (Leaves leaves) s t f = absurd (tree_kind (Leaves leaves) f.0)
 
 -- words spell one task, and that is the one that ended
 runs : (refusal : Refusal) (words : List (List ℕ)) (s t : DeskState) → OneTask → RefusesRun words refusal s t

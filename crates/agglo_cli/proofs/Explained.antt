@@ -9,11 +9,13 @@ use Rattle.refusals.specs.declared.refusal.Refusal.{Refusal}
 use Rattle.refusals.specs.declared.refusal.Refusal.TheVariants.{Memory, Words, Volume, Leaves, Input, Output, Tree}
 use Rattle.refusals.specs.Refusal.{status_of}
 use Rattle.agglo_cli.specs.Answers.{Finds}
-use Rattle.agglo_cli.specs.Flaws.{IsVolumeFlaw, IsCutFlaw, IsTreeFlaw, basins_refusal, segment_refusal, show_refusal, RefusesInput, RefusesNumbers, RefusesStart, IsJudged, HasInput, MayHideFlaw}
+use Rattle.agglo_cli.specs.Flaws.{basins_refusal, segment_refusal, show_refusal, basins_judged, segment_judged, show_judged, RefusesInput, RefusesNumbers, RefusesStart, IsJudged, HasInput, MayHideFlaw}
 use Rattle.agglo_cli.specs.Headline.{IsAgglomerated, IsMade, IsTried}
 use Rattle.agglo_cli.specs.Reading.{OnlyInputChanges, HasFile}
 use Rattle.agglo_cli.specs.Run.{FinishesTask, RefusesTask, StopsTask, RefusesRun, Told, Finishes, NamesAFlawedInput, NamesAGoodInput, WritesNothing}
 use Rattle.agglo_cli.specs.Writing.{Answer}
+use Rattle.agglo_cli.proofs.FlawKinds.{volume_kind, cut_kind, tree_kind}
+use Rattle.agglo_cli.proofs.ReadFile.{failed_fault, failed_alone, failed_misses}
 use Rattle.agglo_cli.proofs.Judged.{TellsFlaw, finds_sound, one_cause, memory_first, fault_first}
 use Rattle.agglo_cli.proofs.Segmented.{agglomerated, made, tried}
 use Rattle.agglo_cli.proofs.Written.{AreFiles, IsFilePort, stopped_fault, failing_files_keep}
@@ -122,11 +124,11 @@ done_not_flawed words s t P one f status n =
 
 -- a task that started has words
 no_words : (task : Task) (s t : DeskState) → RefusesStart task Words s t → ⊥
-no_words (Basins settings) s t f = f.0
-no_words (Segment settings) s t f = f.0
+no_words (Basins settings) s t f = volume_kind Words f.0
+no_words (Segment settings) s t f = cut_kind settings.chunk Words f.0
 no_words (Make settings) s t f = f
 no_words (Trial settings) s t f = f
-no_words (Show tree) s t f = f.0
+no_words (Show tree) s t f = tree_kind Words f.0
 
 pub settings_refused : (words : List (List ℕ)) (task : Task) (refusal : Refusal) (s t : DeskState) → Spells words task
     → RefusesTask task refusal s t → RefusesRun words refusal s t
@@ -215,11 +217,11 @@ exactly_judged (Tree fault) words s t one f status n = inl (flaw_judged (Tree fa
 -- ---- faults
 
 fault_of_input : (task : Task) (s t : DeskState) → RefusesStart task Input s t → Rose s.input_faults t.input_faults
-fault_of_input (Basins settings) s t f = f.fault
-fault_of_input (Segment settings) s t f = f.fault
+fault_of_input (Basins settings) s t f = failed_fault _ _ s t f
+fault_of_input (Segment settings) s t f = failed_fault _ _ s t f
 fault_of_input (Make settings) s t f = absurd f
 fault_of_input (Trial settings) s t f = absurd f
-fault_of_input (Show tree) s t f = f.fault
+fault_of_input (Show tree) s t f = failed_fault _ _ s t f
 
 input_rose : (words : List (List ℕ)) (s m t : DeskState) → RefusesRun words Input s m → Told Input m t
     → Rose s.input_faults t.input_faults
@@ -292,15 +294,15 @@ nothing_alone s t e = e ∙ sym (ap (λ (z : DeskState). record s {
   input = z.input;
 }) e)
 
-file_alone : (IsFlaw : Refusal → Type 0) (refusal_of : List ℕ → Option Refusal) (name : List ℕ) (refusal : Refusal) (s t : DeskState)
-    → RefusesInput IsFlaw refusal_of name refusal s t → OnlyInputChanges s t
-file_alone IsFlaw refusal_of name Memory s t f = input_alone s t f.after
-file_alone IsFlaw refusal_of name Words s t f = input_alone s t f.1.after
-file_alone IsFlaw refusal_of name (Volume fault) s t f = input_alone s t f.1.after
-file_alone IsFlaw refusal_of name (Leaves leaves) s t f = input_alone s t f.1.after
-file_alone IsFlaw refusal_of name Input s t f = f.after
-file_alone IsFlaw refusal_of name Output s t f = input_alone s t f.1.after
-file_alone IsFlaw refusal_of name (Tree fault) s t f = input_alone s t f.1.after
+file_alone : (refusal_of : List ℕ → Option Refusal) (judged : List ℕ → ℕ) (name : List ℕ) (refusal : Refusal) (s t : DeskState)
+    → RefusesInput refusal_of judged name refusal s t → OnlyInputChanges s t
+file_alone refusal_of judged name Memory s t f = input_alone s t f.after
+file_alone refusal_of judged name Words s t f = input_alone s t f.1.opened.after
+file_alone refusal_of judged name (Volume fault) s t f = input_alone s t f.1.opened.after
+file_alone refusal_of judged name (Leaves leaves) s t f = input_alone s t f.1.opened.after
+file_alone refusal_of judged name Input s t f = failed_alone judged name s t f
+file_alone refusal_of judged name Output s t f = input_alone s t f.1.opened.after
+file_alone refusal_of judged name (Tree fault) s t f = input_alone s t f.1.opened.after
 
 -- where no file is read, nothing changes
 numbers_same : (cause : Option Refusal) (refusal : Refusal) (s t : DeskState) → RefusesNumbers cause refusal s t → t ≡ s
@@ -313,11 +315,11 @@ numbers_same cause Output s t f = absurd f
 numbers_same cause (Tree fault) s t f = absurd f
 
 start_alone : (task : Task) (refusal : Refusal) (s t : DeskState) → RefusesStart task refusal s t → OnlyInputChanges s t
-start_alone (Basins settings) refusal s t f = file_alone IsVolumeFlaw basins_refusal _ refusal s t f
-start_alone (Segment settings) refusal s t f = file_alone IsCutFlaw (segment_refusal settings.chunk) _ refusal s t f
+start_alone (Basins settings) refusal s t f = file_alone basins_refusal basins_judged _ refusal s t f
+start_alone (Segment settings) refusal s t f = file_alone (segment_refusal settings.chunk) (segment_judged settings.chunk) _ refusal s t f
 start_alone (Make settings) refusal s t f = nothing_alone s t (numbers_same _ refusal s t f)
 start_alone (Trial settings) refusal s t f = nothing_alone s t (numbers_same _ refusal s t f)
-start_alone (Show tree) refusal s t f = file_alone IsTreeFlaw show_refusal _ refusal s t f
+start_alone (Show tree) refusal s t f = file_alone show_refusal show_judged _ refusal s t f
 
 run_alone : (refusal : Refusal) (words : List (List ℕ)) (s t : DeskState) → RefusesRun words refusal s t → status_of refusal ≢ 6
     → OnlyInputChanges s t
@@ -372,25 +374,25 @@ found_stays name (Some fs) old new found stays = stays found
 abbrev Misses_stay : DeskState → DeskState → Type 0
 Misses_stay s t = IfSome s.files (λ _. t.misses ≡ s.misses)
 
-file_misses : (IsFlaw : Refusal → Type 0) (refusal_of : List ℕ → Option Refusal) (name : List ℕ) (refusal : Refusal) (s t : DeskState)
-    → RefusesInput IsFlaw refusal_of name refusal s t → HasFile s name → Misses_stay s t
-file_misses IsFlaw refusal_of name Memory s t f has = everywhere s.files _ (ap (λ (z : DeskState). z.misses) f.after)
-file_misses IsFlaw refusal_of name Words s t f has = everywhere s.files _ (ap (λ (z : DeskState). z.misses) f.1.after)
-file_misses IsFlaw refusal_of name (Volume fault) s t f has = everywhere s.files _ (ap (λ (z : DeskState). z.misses) f.1.after)
-file_misses IsFlaw refusal_of name (Leaves leaves) s t f has = everywhere s.files _ (ap (λ (z : DeskState). z.misses) f.1.after)
-file_misses IsFlaw refusal_of name Input s t f has = found_stays name s.files s.misses t.misses has f.misses
-file_misses IsFlaw refusal_of name Output s t f has = everywhere s.files _ (ap (λ (z : DeskState). z.misses) f.1.after)
-file_misses IsFlaw refusal_of name (Tree fault) s t f has = everywhere s.files _ (ap (λ (z : DeskState). z.misses) f.1.after)
+file_misses : (refusal_of : List ℕ → Option Refusal) (judged : List ℕ → ℕ) (name : List ℕ) (refusal : Refusal) (s t : DeskState)
+    → RefusesInput refusal_of judged name refusal s t → HasFile s name → Misses_stay s t
+file_misses refusal_of judged name Memory s t f has = everywhere s.files _ (ap (λ (z : DeskState). z.misses) f.after)
+file_misses refusal_of judged name Words s t f has = everywhere s.files _ (ap (λ (z : DeskState). z.misses) f.1.opened.after)
+file_misses refusal_of judged name (Volume fault) s t f has = everywhere s.files _ (ap (λ (z : DeskState). z.misses) f.1.opened.after)
+file_misses refusal_of judged name (Leaves leaves) s t f has = everywhere s.files _ (ap (λ (z : DeskState). z.misses) f.1.opened.after)
+file_misses refusal_of judged name Input s t f has = found_stays name s.files s.misses t.misses has (failed_misses judged name s t f)
+file_misses refusal_of judged name Output s t f has = everywhere s.files _ (ap (λ (z : DeskState). z.misses) f.1.opened.after)
+file_misses refusal_of judged name (Tree fault) s t f has = everywhere s.files _ (ap (λ (z : DeskState). z.misses) f.1.opened.after)
 
 numbers_misses : (cause : Option Refusal) (refusal : Refusal) (s t : DeskState) → RefusesNumbers cause refusal s t → Misses_stay s t
 numbers_misses cause refusal s t f = everywhere s.files _ (ap (λ (z : DeskState). z.misses) (numbers_same cause refusal s t f))
 
 start_misses : (task : Task) (refusal : Refusal) (s t : DeskState) → RefusesStart task refusal s t → HasInput s task → Misses_stay s t
-start_misses (Basins settings) refusal s t f has = file_misses IsVolumeFlaw basins_refusal settings.volume refusal s t f has
-start_misses (Segment settings) refusal s t f has = file_misses IsCutFlaw (segment_refusal settings.chunk) settings.volume refusal s t f has
+start_misses (Basins settings) refusal s t f has = file_misses basins_refusal basins_judged settings.volume refusal s t f has
+start_misses (Segment settings) refusal s t f has = file_misses (segment_refusal settings.chunk) (segment_judged settings.chunk) settings.volume refusal s t f has
 start_misses (Make settings) refusal s t f has = numbers_misses _ refusal s t f
 start_misses (Trial settings) refusal s t f has = numbers_misses _ refusal s t f
-start_misses (Show tree) refusal s t f has = file_misses IsTreeFlaw show_refusal tree refusal s t f has
+start_misses (Show tree) refusal s t f has = file_misses show_refusal show_judged tree refusal s t f has
 
 run_misses : (refusal : Refusal) (words : List (List ℕ)) (s t : DeskState) → RefusesRun words refusal s t
     → ((task : Task) → Spells words task → HasInput s task) → Misses_stay s t

@@ -10,7 +10,7 @@ use Rattle.seg_io.specs.Desk.{DeskState}
 use Rattle.refusals.specs.declared.refusal.Refusal.{Refusal}
 use Rattle.refusals.specs.declared.refusal.Refusal.TheVariants.{Memory, Words, Volume, Leaves, Input, Output, Tree}
 use Rattle.agglo_cli.specs.Answers.{IsVolumeFile, IsTreeFile, ReadsCutVolume, Finds}
-use Rattle.agglo_cli.specs.Flaws.{IsVolumeFlaw, IsCutFlaw, IsTreeFlaw, volume_flaw_refusal, tree_flaw_refusal, leaves_refusal, basins_refusal, segment_refusal, show_refusal, RefusesInput, RefusesNumbers, RefusesStart, IsJudgedFile, IsJudged, MayHideFlaw}
+use Rattle.agglo_cli.specs.Flaws.{volume_flaw_refusal, tree_flaw_refusal, leaves_refusal, basins_refusal, segment_refusal, show_refusal, basins_judged, segment_judged, show_judged, RefusesInput, RefusesNumbers, RefusesStart, IsJudgedFile, IsJudged, MayHideFlaw}
 use Rattle.agglo_cli.specs.Reading.{file_of}
 use Rattle.agglo_cli.specs.Writing.{Answer}
 use Rattle.agglo_cli.proofs.ReadFile.{if_some}
@@ -58,17 +58,17 @@ TellsFlaw Input = ⊥
 TellsFlaw Output = ⊥
 TellsFlaw (Tree fault) = Unit {0}
 
-of_file : (IsFlaw : Refusal → Type 0) (refusal_of : List ℕ → Option Refusal) (name : List ℕ) (refusal : Refusal) (cause : Option Refusal)
-    (s t : DeskState) → TellsFlaw refusal → RefusesInput IsFlaw refusal_of name refusal s t → IsJudgedFile refusal_of name cause s
+of_file : (refusal_of : List ℕ → Option Refusal) (judged : List ℕ → ℕ) (name : List ℕ) (refusal : Refusal) (cause : Option Refusal)
+    (s t : DeskState) → TellsFlaw refusal → RefusesInput refusal_of judged name refusal s t → IsJudgedFile refusal_of name cause s
     → cause ≡ Some refusal
 unfolding TellsFlaw
-of_file IsFlaw refusal_of name Memory cause s t flaw f j = absurd flaw
-of_file IsFlaw refusal_of name Words cause s t flaw f j = absurd flaw
-of_file IsFlaw refusal_of name (Volume fault) cause s t flaw f j = of_told refusal_of name cause _ s f.1.bytes j
-of_file IsFlaw refusal_of name (Leaves leaves) cause s t flaw f j = of_told refusal_of name cause _ s f.1.bytes j
-of_file IsFlaw refusal_of name Input cause s t flaw f j = absurd flaw
-of_file IsFlaw refusal_of name Output cause s t flaw f j = absurd flaw
-of_file IsFlaw refusal_of name (Tree fault) cause s t flaw f j = of_told refusal_of name cause _ s f.1.bytes j
+of_file refusal_of judged name Memory cause s t flaw f j = absurd flaw
+of_file refusal_of judged name Words cause s t flaw f j = absurd flaw
+of_file refusal_of judged name (Volume fault) cause s t flaw f j = of_told refusal_of name cause _ s f.1.opened.bytes j
+of_file refusal_of judged name (Leaves leaves) cause s t flaw f j = of_told refusal_of name cause _ s f.1.opened.bytes j
+of_file refusal_of judged name Input cause s t flaw f j = absurd flaw
+of_file refusal_of judged name Output cause s t flaw f j = absurd flaw
+of_file refusal_of judged name (Tree fault) cause s t flaw f j = of_told refusal_of name cause _ s f.1.opened.bytes j
 
 of_numbers : (told cause : Option Refusal) (refusal : Refusal) (s t : DeskState) → TellsFlaw refusal → RefusesNumbers told refusal s t
     → told ≡ cause → cause ≡ Some refusal
@@ -83,11 +83,11 @@ of_numbers told cause (Tree fault) s t flaw f j = absurd f
 
 pub one_cause : (task : Task) (refusal : Refusal) (cause : Option Refusal) (s t : DeskState) → TellsFlaw refusal
     → RefusesStart task refusal s t → IsJudged task cause s → cause ≡ Some refusal
-one_cause (Basins settings) refusal cause s t flaw f j = of_file IsVolumeFlaw basins_refusal settings.volume refusal cause s t flaw f j
-one_cause (Segment settings) refusal cause s t flaw f j = of_file IsCutFlaw (segment_refusal settings.chunk) settings.volume refusal cause s t flaw f j
+one_cause (Basins settings) refusal cause s t flaw f j = of_file basins_refusal basins_judged settings.volume refusal cause s t flaw f j
+one_cause (Segment settings) refusal cause s t flaw f j = of_file (segment_refusal settings.chunk) (segment_judged settings.chunk) settings.volume refusal cause s t flaw f j
 one_cause (Make settings) refusal cause s t flaw f j = of_numbers None cause refusal s t flaw f j
 one_cause (Trial settings) refusal cause s t flaw f j = of_numbers (leaves_refusal settings.axes settings.chunk) cause refusal s t flaw f j
-one_cause (Show tree) refusal cause s t flaw f j = of_file IsTreeFlaw show_refusal tree refusal cause s t flaw f j
+one_cause (Show tree) refusal cause s t flaw f j = of_file show_refusal show_judged tree refusal cause s t flaw f j
 
 -- ---- what may come in the place of a flaw
 

@@ -1,4 +1,5 @@
 mod ReadFile
+mod FlawKinds
 mod CutVolumes
 mod Trees
 mod Written

@@ -1,17 +1,19 @@
 -- Why a task is refused before anything is written.
-use Rattle.std.specs.Prelude.{◌≡◌, ℕ, ◌⊎◌, List, [], ◌∷◌, Contains, Option, Some, None}
+use Rattle.std.specs.Prelude.{◌≡◌, ℕ, ◌⊎◌, List, [], ◌∷◌, Contains, Option, Some, None, is_some, if◌then◌else◌}
 use Rattle.std.specs.Option.{option_map, option_and_then, option_or}
 use Rattle.agglo_model.specs.Axes.{Axes}
 use Rattle.agglo_model.specs.Cutting.{SizesFlaw, ChunkZero, TooManyLeaves, sizes_flaw}
 use Rattle.agglo_model.specs.TreeFile.{TreeFlaw, tree_flaw}
-use Rattle.agglo_model.specs.VolumeFile.{VolumeFlaw, header_axes, header_flaw, body, body_flaw, volume_flaw}
+use Rattle.agglo_model.specs.VolumeFile.{VolumeFlaw, header_length, header_axes, header_flaw, body, body_flaw, volume_flaw}
 use Rattle.command_words.specs.Words.{Task, Basins, Segment, Make, Trial, Show}
 use Rattle.volume_file.specs.Fault.{fault_of}
+use Rattle.volume_file.specs.Reading.{judged_length}
 use Rattle.merge_tree.specs.TreeFault.{fault_of as tree_fault_of}
+use Rattle.merge_tree.specs.TreeReading.{judged_length as tree_judged_length}
 use Rattle.seg_io.specs.Desk.{DeskState}
 use Rattle.refusals.specs.declared.refusal.Refusal.{Refusal}
 use Rattle.refusals.specs.declared.refusal.Refusal.TheVariants.{Memory, Words, Volume, Leaves, Input, Output, Tree}
-use Rattle.agglo_cli.specs.Reading.{OpensFile, FailsToReadFile, HasFile, file_of}
+use Rattle.agglo_cli.specs.Reading.{OpensFile, JudgesFile, FailsToReadFile, HasFile, file_of}
 
 abbrev pub volume_flaw_refusal : Option VolumeFlaw → Option Refusal
 volume_flaw_refusal flaw = option_map (λ f. Volume (fault_of f)) flaw
@@ -44,27 +46,30 @@ segment_refusal chunk bytes =
 abbrev pub show_refusal : List ℕ → Option Refusal
 show_refusal bytes = tree_flaw_refusal (tree_flaw bytes)
 
--- the causes for which bytes may be no volume, no volume that can be cut, and no merge tree
-abbrev pub IsVolumeFlaw : Refusal → Type 0
-IsVolumeFlaw (Volume fault) = Unit {0}
-IsVolumeFlaw refusal = ⊥
+-- How much is taken of a file that is refused: the header, where it has a flaw or tells of too many leaves, and else
+-- all that it claims, and one byte more, which tells whether there is one.
+abbrev pub basins_judged : List ℕ → ℕ
+basins_judged bytes = judged_length bytes
 
-abbrev pub IsCutFlaw : Refusal → Type 0
-IsCutFlaw (Volume fault) = Unit {0}
-IsCutFlaw (Leaves leaves) = Unit {0}
-IsCutFlaw refusal = ⊥
+abbrev pub segment_judged : List ℕ → List ℕ → ℕ
+segment_judged chunk bytes =
+    if is_some (leaves_refusal (header_axes bytes) chunk) then header_length
+    else judged_length bytes
 
-abbrev pub IsTreeFlaw : Refusal → Type 0
-IsTreeFlaw (Tree fault) = Unit {0}
-IsTreeFlaw refusal = ⊥
+abbrev pub show_judged : List ℕ → ℕ
+show_judged bytes = tree_judged_length bytes
+
+-- some bytes are refused for this cause
+abbrev pub SomeBytesHave : (List ℕ → Option Refusal) → Refusal → Type 0
+SomeBytesHave refusal_of refusal = (bytes : List ℕ) × (refusal_of bytes ≡ Some refusal)
 
 -- The input of this name was not read, for this cause. Bytes are refused for a flaw that such a file may have,
--- and it is the one that `refusal_of` tells of them.
-abbrev pub RefusesInput : (Refusal → Type 0) → (List ℕ → Option Refusal) → List ℕ → Refusal → DeskState → DeskState → Type 0
-RefusesInput IsFlaw refusal_of name Memory old new = OpensFile name (λ _. Unit {0}) old new
-RefusesInput IsFlaw refusal_of name Input old new = FailsToReadFile name old new
-RefusesInput IsFlaw refusal_of name refusal old new =
-    IsFlaw refusal × OpensFile name (λ bytes. refusal_of bytes ≡ Some refusal) old new
+-- and it is the one that `refusal_of` tells of them, once as many are taken as `judged` says. A fault comes before that.
+abbrev pub RefusesInput : (List ℕ → Option Refusal) → (List ℕ → ℕ) → List ℕ → Refusal → DeskState → DeskState → Type 0
+RefusesInput refusal_of judged name Memory old new = OpensFile name (λ _. Unit {0}) old new
+RefusesInput refusal_of judged name Input old new = FailsToReadFile judged name old new
+RefusesInput refusal_of judged name refusal old new =
+    SomeBytesHave refusal_of refusal × JudgesFile name (λ bytes. refusal_of bytes ≡ Some refusal) judged old new
 
 -- Nothing is read, and the run ended for this cause: want of memory, or too many leaves as `cause` says.
 abbrev pub RefusesNumbers : Option Refusal → Refusal → DeskState → DeskState → Type 0
@@ -78,11 +83,11 @@ RefusesNumbers cause (Tree fault) old new = ⊥
 
 -- The task ended for this cause before its answer was known.
 abbrev pub RefusesStart : Task → Refusal → DeskState → DeskState → Type 0
-RefusesStart (Basins settings) refusal old new = RefusesInput IsVolumeFlaw basins_refusal settings.volume refusal old new
-RefusesStart (Segment settings) refusal old new = RefusesInput IsCutFlaw (segment_refusal settings.chunk) settings.volume refusal old new
+RefusesStart (Basins settings) refusal old new = RefusesInput basins_refusal basins_judged settings.volume refusal old new
+RefusesStart (Segment settings) refusal old new = RefusesInput (segment_refusal settings.chunk) (segment_judged settings.chunk) settings.volume refusal old new
 RefusesStart (Make settings) refusal old new = RefusesNumbers None refusal old new
 RefusesStart (Trial settings) refusal old new = RefusesNumbers (leaves_refusal settings.axes settings.chunk) refusal old new
-RefusesStart (Show tree) refusal old new = RefusesInput IsTreeFlaw show_refusal tree refusal old new
+RefusesStart (Show tree) refusal old new = RefusesInput show_refusal show_judged tree refusal old new
 
 -- ---- what a task deserves
 

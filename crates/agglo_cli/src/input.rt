@@ -2,7 +2,7 @@ ghost use Rattle.std.specs.Prelude.{◌≡◌, None, Some, MatchResult};
 ghost use Rattle.agglo_model.specs.Cutting.{chunking};
 ghost use Rattle.command_words.specs.Words.{AreSomeSizes};
 ghost use Rattle.agglo_cli.specs.Answers.{IsVolumeFile, IsTreeFile, ReadsCutVolume};
-ghost use Rattle.agglo_cli.specs.Flaws.{IsVolumeFlaw, IsCutFlaw, IsTreeFlaw, basins_refusal, segment_refusal, show_refusal, leaves_refusal, RefusesInput};
+ghost use Rattle.agglo_cli.specs.Flaws.{basins_refusal, segment_refusal, show_refusal, basins_judged, segment_judged, show_judged, leaves_refusal, RefusesInput};
 ghost use Rattle.agglo_cli.specs.Reading.{ReadsFile};
 
 use chunk_tree::{CutFault, Cutting};
@@ -24,7 +24,7 @@ pub struct CutVolume {
 pub fn read_volume_file<D: Desk>(alloc: Global, desk: &mut D, name: &str) -> Result<Volume, Refusal>
     ensures { MatchResult result
         (λ volume. ReadsFile name.now (IsVolumeFile volume) (D.state desk.old) (D.state desk.new))
-        (λ refusal. RefusesInput IsVolumeFlaw basins_refusal name.now refusal (D.state desk.old) (D.state desk.new)) }
+        (λ refusal. RefusesInput basins_refusal basins_judged name.now refusal (D.state desk.old) (D.state desk.new)) }
 {
     desk.open_in(name).map_err(|_| Refusal::Input)?;
     let volume = read_volume(alloc, desk)?;
@@ -42,7 +42,7 @@ pub fn read_cut_volume<D: Desk>(
     requires { AreSomeSizes chunk }
     ensures { MatchResult result
         (λ read. ReadsCutVolume name.now chunk read.volume read.cutting (D.state desk.old) (D.state desk.new))
-        (λ refusal. RefusesInput IsCutFlaw (segment_refusal chunk) name.now refusal (D.state desk.old) (D.state desk.new)) }
+        (λ refusal. RefusesInput (segment_refusal chunk) (segment_judged chunk) name.now refusal (D.state desk.old) (D.state desk.new)) }
 {
     desk.open_in(name).map_err(|_| Refusal::Input)?;
     let head = read_head(desk)?;
@@ -69,7 +69,7 @@ pub fn cut(dims: &Dims, chunk: [u32; 3]) -> Result<Cutting, Refusal>
 pub fn read_tree_file<D: Desk>(alloc: Global, desk: &mut D, name: &str) -> Result<Tree, Refusal>
     ensures { MatchResult result
         (λ tree. ReadsFile name.now (IsTreeFile tree) (D.state desk.old) (D.state desk.new))
-        (λ refusal. RefusesInput IsTreeFlaw show_refusal name.now refusal (D.state desk.old) (D.state desk.new)) }
+        (λ refusal. RefusesInput show_refusal show_judged name.now refusal (D.state desk.old) (D.state desk.new)) }
 {
     desk.open_in(name).map_err(|_| Refusal::Input)?;
     let tree = read_tree(alloc, desk)?;

@@ -1,7 +1,8 @@
 -- What is read of a header, and the fault that tells of its flaw.
-use Rattle.std.proofs.Common.{◌≡◌, ℕ, ◌<◌, ◌≤◌, nat_eq, true, false, List, length, take, min, Option, Some, None, IfSome, refl, sym, ap, ◌∙◌, subst}
+use Rattle.std.proofs.Common.{◌≡◌, ℕ, ◌<◌, ◌≤◌, nat_eq, true, false, List, length, take, min, Option, Some, None, IfSome, refl, sym, ap, ◌∙◌, subst, arith, inl, inr, length-take}
 use Rattle.std.specs.List.{starts_with}
-use Rattle.std.proofs.lemmas.List.{take_min}
+use Rattle.std.proofs.lemmas.Bool.{cases_lt}
+use Rattle.std.proofs.lemmas.List.{take_min, take_all}
 use Rattle.std.specs.Option.{option_map}
 use Rattle.agglo_model.specs.Axes.{Axes, axes_flaw, voxel_count}
 use Rattle.agglo_model.specs.MergeTree.{tree_magic}
@@ -95,6 +96,15 @@ header_of None k filled P front all p = tt
 header_of (Some bytes) k filled P front all p =
     subst P (front ∙ (ap (λ (n : ℕ). take n bytes) all ∙ take_min header_length bytes)) p
 
+sound_is_long : (bytes : List ℕ) → header_flaw bytes ≡ None → header_length ≤ length bytes
+sound_is_long bytes sound = elim (cases_lt (length bytes) header_length) [
+  | inl short ↦ absurd (none_is_some (FlawShort (length bytes)) (sym sound ∙ short_flaw bytes short))
+  | inr long ↦ long
+]
+  where
+    none_is_some : (flaw : TreeFlaw) → None ≡ Some flaw → ⊥
+    none_is_some flaw e = cc e
+
 -- a sound header was read
 pub reads_head : (k : ℕ) (buffer filled : List ℕ) (head : Head) (old new : DeskState) → length buffer ≡ header_length
     → Fills k buffer filled old new → header_flaw (take k filled) ≡ None → SaysHead head (take k filled) → ReadsHead head old new
@@ -102,6 +112,14 @@ reads_head k buffer filled head old new room fills sound says =
     let all : IfSome old.input (λ bytes. k ≡ min header_length (length bytes)) =
     subst (λ (n : ℕ). IfSome old.input (λ bytes. k ≡ min n (length bytes))) room fills.all in
     record {
+      header_is = (
+        take k filled,
+        record {
+          long = omega (arith, fills.room, room, length-take k filled, sound_is_long (take k filled) sound);
+          sound = sound;
+          says = says;
+        },
+      );
       sound = header_of old.input k filled (λ bytes. header_flaw bytes ≡ None) fills.front all sound;
       says = header_of old.input k filled (λ bytes. SaysHead head bytes) fills.front all says;
       after = fills.after ∙ taken-min old header_length k all;
@@ -118,7 +136,9 @@ pub finds_bad_head : (k : ℕ) (buffer filled : List ℕ) (fault : TreeFault) (o
 finds_bad_head k buffer filled fault old new room fills tells =
     let all : IfSome old.input (λ bytes. k ≡ min header_length (length bytes)) =
     subst (λ (n : ℕ). IfSome old.input (λ bytes. k ≡ min n (length bytes))) room fills.all in
+    let short : length (take k filled) ≤ header_length = omega (arith, fills.room, room, length-take k filled) in
     bad_head fault (header_flaw (take k filled)) old new tells record {
+      possible = (take k filled, subst (λ (bytes : List ℕ). Tells fault (header_flaw bytes)) (sym (take_all header_length (take k filled) short)) tells);
       flaw = header_of old.input k filled (λ bytes. Tells fault (header_flaw bytes)) fills.front all tells;
       after = fills.after ∙ taken-min old header_length k all;
     }

@@ -62,7 +62,8 @@ read_more got count before after old now new h piece =
     }
 
 -- no piece was read
-pub no_piece : (bytes : List ℕ) (fault : InputFault) (old now new : DeskState) → HasRead bytes old now
-    → FailsToRead fault now new → FailsToRead fault old new
-no_piece bytes Read old now new h f = fails_later (length bytes) old now new h.after f
-no_piece bytes Memory old now new h f = record { count = length bytes + f.count; after = f.after ∙ (ap (taken f.count) h.after ∙ taken-taken (length bytes) f.count old) }
+pub no_piece : (most count : ℕ) (bytes : List ℕ) (fault : InputFault) (old now new : DeskState) → length bytes + count ≤ most
+    → HasRead bytes old now → FailsToRead count fault now new → FailsToRead most fault old new
+no_piece most count bytes Read old now new within h f = fails_later (length bytes) (λ _. count) (λ _. most) old now new h.after
+    (for_some old.input (λ _. length bytes + count ≤ most) (λ _. within)) f
+no_piece most count bytes Memory old now new within h f = record { count = length bytes + f.count; after = f.after ∙ (ap (taken f.count) h.after ∙ taken-taken (length bytes) f.count old) }

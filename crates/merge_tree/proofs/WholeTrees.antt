@@ -1,23 +1,23 @@
 -- A whole tree file: its header, then its records.
-use Rattle.std.proofs.Common.{refl, ◌≡◌, ◌≢◌, ℕ, ◌+◌, ◌*◌, ◌<◌, ◌≤◌, true, List, [], length, take, drop, min, Option, Some, None, IfSome, sym, ap, ◌∙◌, subst, arith, length-take}
+use Rattle.std.proofs.Common.{refl, ◌≡◌, ◌≢◌, ℕ, ◌+◌, ◌*◌, ◌<◌, ◌≤◌, true, List, [], ◌++◌, length, take, drop, min, Option, Some, None, IfSome, sym, ap, ◌∙◌, subst, arith, length-take}
 use Rattle.std.specs.Option.{option_map, option_or}
-use Rattle.std.proofs.lemmas.List.{take_all}
+use Rattle.std.proofs.lemmas.List.{take_all, take_at, drop_at}
 use Rattle.agglo_model.specs.Axes.{Axes}
 use Rattle.agglo_model.specs.PairOrder.{Threshold}
 use Rattle.agglo_model.specs.VolumeFile.{header_length, header_axes, body}
 use Rattle.agglo_model.specs.TreeFile.{MergeTree, TreeFlaw, header, header_threshold, header_merges, header_flaw, body_flaw, records_flaw, merges_in, record_length, tree_flaw, tree_in}
 use Rattle.agglo_model.proofs.TreeBodies.{short_body, long_body, whole_body, cut_body, whole_length}
 use Rattle.seg_io.specs.Desk.{DeskState, taken}
-use Rattle.seg_io.proofs.States.{taken-taken}
-use Rattle.seg_io.proofs.InputStates.{taken-all, emptied_later, takes_more, fails_later}
+use Rattle.seg_io.proofs.States.{for_some, taken-taken}
+use Rattle.seg_io.proofs.InputStates.{taken-all, emptied_later, takes_more, fails_later, fails_sooner}
 use Rattle.merge_tree.specs.declared.tree_records.Head.{Head}
 use Rattle.merge_tree.specs.declared.tree_fault.TreeFault.{TreeFault}
 use Rattle.merge_tree.specs.declared.tree_fault.TreeFault.TheVariants.{Truncated, Trailing, Read, Memory}
 use Rattle.merge_tree.specs.declared.tree_fault.InputFault.{InputFault}
 use Rattle.merge_tree.specs.declared.tree_fault.InputFault.TheVariants.{Read as InputRead, Memory as InputMemory}
 use Rattle.merge_tree.specs.TreeFault.{fault_of, told}
-use Rattle.merge_tree.specs.TreeReading.{Tells, body_count, read_count, ReadsTree, FailsToReadTree, ReadsUpTo, FailsToRead}
-use Rattle.merge_tree.specs.TreeHead.{SaysHead, ReadsHead, FailsToReadHead}
+use Rattle.merge_tree.specs.TreeReading.{Tells, body_count, judged_length, read_count, ReadsTree, FailsToReadTree, ReadsUpTo, FailsToRead}
+use Rattle.merge_tree.specs.TreeHead.{SaysHead, IsHeader, ReadsHead, FailsToReadHead}
 use Rattle.merge_tree.proofs.Headers.{never_tells_read}
 use Rattle.merge_tree.proofs.Judged.{told_first}
 
@@ -54,9 +54,11 @@ head_taken fault (Some bytes) h = ap (λ (n : ℕ). Some (drop (header_length + 
 
 -- no header was read
 pub no_head : (fault : TreeFault) (old new : DeskState) → FailsToReadHead fault old new → FailsToReadTree fault old new
-no_head Read old new f = f
+no_head Read old new f = fails_sooner (λ _. header_length) judged_length old new
+    (for_some old.input (λ bytes. header_length ≤ judged_length bytes) (λ bytes. omega arith)) f
 no_head Memory old new f = record { count = header_length; after = f.after }
 no_head fault old new f = record {
+  possible = (f.possible.0, told_first (header_flaw (header f.possible.0)) _ fault f.possible.1);
   flaw = head_flaw fault old.input f.flaw;
   after = f.after ∙ ap (λ (i : Option (List ℕ)). record old { input = i }) (head_taken fault old.input f.flaw);
 }
@@ -65,11 +67,23 @@ no_head fault old new f = record {
 pub open_after : (head : Head) (old now : DeskState) → ReadsHead head old now → old.has_input ≡ true → now.has_input ≡ true
 open_after head old now h open_before = ap (λ (s : DeskState). s.has_input) h.after ∙ open_before
 
+-- of an input with a sound header the records that it claims are read, and one byte more
+rest_judged : (o : Option (List ℕ)) (head : Head) (most : ℕ) → most ≡ record_length * head.merges + 1
+    → IfSome o (λ input. header_flaw (header input) ≡ None) → IfSome o (λ input. SaysHead head (header input))
+    → IfSome o (λ input. header_length + most ≡ judged_length input)
+rest_judged None head most e sound says = tt
+rest_judged (Some input) head most e sound says =
+    ap (λ (n : ℕ). header_length + n)
+    (e ∙ (ap (λ n. record_length * n + 1) says.merges
+    ∙ ap (λ (flaw : Option TreeFlaw). body_count flaw (header_merges (header input))) (sym sound)))
+
 -- what follows the header could not be read
-pub no_rest : (head : Head) (fault : InputFault) (old now new : DeskState) → ReadsHead head old now → FailsToRead fault now new
-    → FailsToReadTree (told fault) old new
-no_rest head InputRead old now new h f = fails_later header_length old now new h.after f
-no_rest head InputMemory old now new h f = takes_more header_length old now new h.after f
+pub no_rest : (head : Head) (most : ℕ) (fault : InputFault) (old now new : DeskState) → most ≡ record_length * head.merges + 1
+    → ReadsHead head old now → FailsToRead most fault now new → FailsToReadTree (told fault) old new
+no_rest head most InputRead old now new e h f = fails_later header_length (λ _. most) judged_length old now new h.after
+    (if_some old.input _ (λ bytes. header_length + most ≤ judged_length bytes) (λ bytes same. omega arith)
+    (rest_judged old.input head most e h.sound h.says)) f
+no_rest head most InputMemory old now new e h f = takes_more header_length old now new h.after f
 
 -- what is left of the input after the header
 rest_of : (old now : DeskState) (P : List ℕ → Type 0) → now ≡ taken header_length old → IfSome now.input P
@@ -124,15 +138,26 @@ reads_tree head most bytes tree old now new e h read sound made =
           ∙ emptied_later old now header_length h.after);
     }
 
--- of an input with a sound header the records that it claims are taken, and one byte more
 all_taken : (o : Option (List ℕ)) (head : Head) (most : ℕ) → most ≡ record_length * head.merges + 1
     → IfSome o (λ input. header_flaw (header input) ≡ None) → IfSome o (λ input. SaysHead head (header input))
     → option_map (drop (header_length + most)) o ≡ option_map (drop (read_count o)) o
 all_taken None head most e sound says = refl
 all_taken (Some input) head most e sound says =
-    ap (λ (n : ℕ). Some (drop (header_length + n) input))
-    (e ∙ (ap (λ n. record_length * n + 1) says.merges
-    ∙ ap (λ (flaw : Option TreeFlaw). body_count flaw (header_merges (header input))) (sym sound)))
+    ap (λ (n : ℕ). Some (drop n input)) (rest_judged (Some input) head most e sound says)
+
+-- a header with this body after it is a file
+possible_after : (fault : TreeFault) (head : Head) (rest : List ℕ) → ((bytes : List ℕ) × IsHeader head bytes)
+    → Tells fault (body_flaw head.dims head.threshold head.merges rest) → (bytes : List ℕ) × Tells fault (tree_flaw bytes)
+possible_after fault head rest first tells =
+    let front : header (first.0 ++ rest) ≡ first.0 = take_at first.0 rest header_length first.1.long in
+    let after : body (first.0 ++ rest) ≡ rest = drop_at first.0 rest header_length first.1.long in
+    let says : SaysHead head (header (first.0 ++ rest)) = subst (SaysHead head) (sym front) first.1.says in (
+      first.0 ++ rest,
+      ap (option_map fault_of)
+          (ap (λ (o : Option TreeFlaw). option_or o (body_flaw (header_axes (header (first.0 ++ rest))) (header_threshold (header (first.0 ++ rest))) (header_merges (header (first.0 ++ rest))) (body (first.0 ++ rest)))) (ap header_flaw front ∙ first.1.sound)
+          ∙ ((λ i. body_flaw (sym says.axes i) (sym says.threshold i) (sym says.merges i) (body (first.0 ++ rest)))
+          ∙ ap (body_flaw head.dims head.threshold head.merges) after)) ∙ tells,
+    )
 
 -- what was read has a flaw, or there was no memory for its merges
 pub finds_bad_tree : (fault : TreeFault) (head : Head) (most : ℕ) (bytes : List ℕ) (old now new : DeskState) → most ≡ record_length * head.merges + 1
@@ -147,6 +172,7 @@ finds_bad_tree fault head most bytes old now new e h read tells =
     let rest : IfSome (option_map (drop header_length) old.input) (λ rest. bytes ≡ take most rest) =
     rest_of old now (λ rest. bytes ≡ take most rest) h.after read.says in
     record {
+      possible = possible_after fault head bytes h.header_is (tells (λ same. cc));
       flaw = if_some old.input _ _ (λ input same. ap (option_map fault_of) same ∙ tells (λ same. cc))
           (flaw_after old.input head most bytes e h.sound h.says rest);
       after = read.after ∙ (ap (taken most) h.after ∙ (taken-taken header_length most old

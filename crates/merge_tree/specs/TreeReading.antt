@@ -27,18 +27,24 @@ abbrev pub body_count : Option TreeFlaw → ℕ → ℕ
 body_count None merges = record_length * merges + 1
 body_count (Some flaw) merges = 0
 
+-- how much is read of a file with a flaw
+abbrev pub judged_length : List ℕ → ℕ
+judged_length bytes = header_length + body_count (header_flaw (header bytes)) (header_merges (header bytes))
+
 abbrev pub read_count : Option (List ℕ) → ℕ
 read_count None = 0
-read_count (Some bytes) = header_length + body_count (header_flaw (header bytes)) (header_merges (header bytes))
+read_count (Some bytes) = judged_length bytes
 
--- The input left has a flaw that this fault tells of. So many bytes were taken off, as far as they are there.
+-- The input left has a flaw that this fault tells of, and that some file has. So many bytes were taken off, as far as
+-- they are there.
 pub record FindsBadTree (fault : TreeFault) (old new : DeskState) : Type 0 where
+  pub possible : (bytes : List ℕ) × Tells fault (tree_flaw bytes)
   pub flaw : IfSome old.input (λ bytes. Tells fault (tree_flaw bytes))
   pub after : new ≡ taken (read_count old.input) old
 
 -- no tree was read
 abbrev pub FailsToReadTree : TreeFault → DeskState → DeskState → Type 0
-FailsToReadTree Read old new = FailsAfterReading old new
+FailsToReadTree Read old new = FailsAfterReading judged_length old new
 FailsToReadTree Memory old new = TakesSome old new
 FailsToReadTree fault old new = FindsBadTree fault old new
 
@@ -47,10 +53,10 @@ pub record ReadsUpTo (most : ℕ) (bytes : List ℕ) (old new : DeskState) : Typ
   pub says : IfSome old.input (λ input. bytes ≡ take most input)
   pub after : new ≡ taken most old
 
--- bytes could not be read
-abbrev pub FailsToRead : InputFault → DeskState → DeskState → Type 0
-FailsToRead InputRead old new = FailsAfterReading old new
-FailsToRead InputMemory old new = TakesSome old new
+-- up to a limit, bytes could not be read
+abbrev pub FailsToRead : ℕ → InputFault → DeskState → DeskState → Type 0
+FailsToRead most InputRead old new = FailsAfterReading (λ _. most) old new
+FailsToRead most InputMemory old new = TakesSome old new
 
 -- The first `got` bytes of the input were appended and taken off: `count` of them, or fewer only where the
 -- input came to its end.

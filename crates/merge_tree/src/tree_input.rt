@@ -11,7 +11,7 @@ pub fn read_up_to<D: Desk>(alloc: Global, desk: &mut D, most: usize) -> Result<V
     requires { (D.state desk.old).has_input ≡ true }
     ensures { MatchResult result
         (λ bytes. ReadsUpTo most bytes.items (D.state desk.old) (D.state desk.new))
-        (λ fault. FailsToRead fault (D.state desk.old) (D.state desk.new)) }
+        (λ fault. FailsToRead most fault (D.state desk.old) (D.state desk.new)) }
 {
     let mut bytes = Vec::new(alloc);
     let mut piece = [0; PIECE_LENGTH];
@@ -34,7 +34,7 @@ fn append_piece<D: Desk>(
     requires { (D.state desk.old).has_input ≡ true }
     ensures { MatchResult result
         (λ got. AppendsPiece got (length piece.old) bytes.old.items bytes.new.items (D.state desk.old) (D.state desk.new))
-        (λ fault. FailsToRead fault (D.state desk.old) (D.state desk.new)) }
+        (λ fault. FailsToRead (length piece.old) fault (D.state desk.old) (D.state desk.new)) }
 {
     let got = fill(desk, piece)?;
     bytes.extend_from_slice(&piece[..got])?;

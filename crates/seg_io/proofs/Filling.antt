@@ -1,5 +1,5 @@
 -- A buffer that is being filled, piece by piece.
-use Rattle.std.proofs.Common.{◌≡◌, ℕ, ◌+◌, ◌-◌, ◌≤◌, List, [], ◌++◌, length, take, drop, min, Option, Some, None, IfSome, refl, sym, ap, ◌∙◌, subst, arith, length-append, length-take, length-drop}
+use Rattle.std.proofs.Common.{◌≡◌, ℕ, ◌+◌, ◌-◌, ◌<◌, ◌≤◌, List, [], ◌++◌, length, take, drop, min, Option, Some, None, IfSome, refl, sym, ap, ◌∙◌, subst, arith, length-append, length-take, length-drop}
 use Rattle.std.specs.Option.{option_map}
 use Rattle.std.proofs.Math.Seq.{take-add, take-append-add}
 use Rattle.std.proofs.lemmas.List.{take-append-le, length-take-le}
@@ -97,13 +97,14 @@ filled_to_end n k buffer into part old now new none e h r p =
       after = more.after;
     }
 
--- a read failed
-pub fails_after : (n : ℕ) (into : List ℕ) (old now new : DeskState) → HasFilled n into old now
-    → FailsToRead now new → FailsAfterReading old new
-fails_after n into old now new h f =
+-- a read failed, with room left in the buffer
+pub fails_after : (n : ℕ) (buffer into : List ℕ) (old now new : DeskState) → length into ≡ length buffer → n < length into
+    → HasFilled n into old now → FailsToRead now new → FailsAfterReading (λ _. length buffer) old new
+fails_after n buffer into old now new e less h f =
     let same : now.input_faults ≡ old.input_faults = ap (λ (s : DeskState). s.input_faults) h.after in
     record {
       read = n;
+      few = for_some old.input (λ _. n < length buffer) (λ _. omega arith);
       fault = subst (λ (m : ℕ). Rose m new.input_faults) same f.fault;
       after = f.after ∙ ap (λ (s : DeskState). record s { input_faults = new.input_faults }) h.after;
     }

@@ -1,5 +1,5 @@
 -- What a desk means: its state, and what each call does to that state.
-use Rattle.std.specs.Prelude.{◌≡◌, ℕ, ◌≤◌, Bool, true, false, List, [], ◌∷◌, ◌++◌, length, take, drop, min, find, ◌⊎◌, Option, IsSome, IfSome, MatchOption}
+use Rattle.std.specs.Prelude.{◌≡◌, ℕ, ◌<◌, ◌≤◌, Bool, true, false, List, [], ◌∷◌, ◌++◌, length, take, drop, min, find, ◌⊎◌, Option, IsSome, IfSome, MatchOption}
 use Rattle.std.specs.Option.{option_map}
 use Rattle.std.specs.Str.{bytes_eq}
 use Rattle.agglo_model.specs.Count.{Rose}
@@ -141,9 +141,10 @@ pub record FailsToRead (old new : DeskState) : Type 0 where
   pub fault : Rose old.input_faults new.input_faults
   pub after : new ≡ record old { input_faults = new.input_faults }
 
--- a read of several pieces failed, and some bytes were taken
-pub record FailsAfterReading (old new : DeskState) : Type 0 where
+-- A read of several pieces failed. Bytes were taken, but fewer than the reader wants of such an input.
+pub record FailsAfterReading (wanted : List ℕ → ℕ) (old new : DeskState) : Type 0 where
   pub read : ℕ
+  pub few : IfSome old.input (λ bytes. read < wanted bytes)
   pub fault : Rose old.input_faults new.input_faults
   pub after : new ≡ record (taken read old) { input_faults = new.input_faults }
 

@@ -12,7 +12,7 @@ pub fn fill<D: Desk>(desk: &mut D, into: &mut [u8]) -> Result<usize, Failed>
     requires { (D.state desk.old).has_input ≡ true }
     ensures { MatchResult result
         (λ k. Fills k into.old into.new (D.state desk.old) (D.state desk.new))
-        (λ _. FailsAfterReading (D.state desk.old) (D.state desk.new)) }
+        (λ _. FailsAfterReading (λ _. length into.old) (D.state desk.old) (D.state desk.new)) }
 {
     let mut filled = 0;
     while filled < into.len() {

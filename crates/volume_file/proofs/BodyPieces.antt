@@ -1,20 +1,20 @@
 -- The body of a volume file, read in pieces.
-use Rattle.std.proofs.Common.{◌≡◌, ℕ, ◌+◌, ◌-◌, ◌<◌, ◌≤◌, nat_lt, Bool, true, false, List, [], ◌++◌, length, take, drop, min, Option, Some, None, IfSome, refl, sym, ap, ◌∙◌, subst, arith, append_assoc, length-append, length-take, length-drop}
+use Rattle.std.proofs.Common.{◌≡◌, ℕ, ◌+◌, ◌-◌, ◌<◌, ◌≤◌, nat_lt, Bool, true, false, List, [], ◌++◌, length, take, drop, replicate, min, Option, Some, None, IfSome, refl, sym, ap, ◌∙◌, subst, arith, append_assoc, length-append, length-take, length-drop}
 use Rattle.std.specs.Option.{option_map}
 use Rattle.std.proofs.lemmas.Bool.Decides.{nat_tests}
-use Rattle.std.proofs.lemmas.List.{take-take, take_all, take-append-le}
+use Rattle.std.proofs.lemmas.List.{take-take, take_all, take-append-le, length-replicate}
 use Rattle.std.proofs.Math.Seq.{take-add, take-append-add}
 use Rattle.agglo_model.specs.Axes.{Axes, edge_count}
 use Rattle.agglo_model.specs.Grid.{Grid}
 use Rattle.agglo_model.specs.VolumeFile.{body_flaw, Truncated as FlawTruncated, Trailing as FlawTrailing}
-use Rattle.seg_io.specs.Desk.{DeskState, taken, Fills}
+use Rattle.seg_io.specs.Desk.{DeskState, taken, Fills, FailsAfterReading}
 use Rattle.seg_io.proofs.States.{for_some, taken-none, taken-taken}
 use Rattle.volume_file.specs.declared.fault.VolumeFault.{VolumeFault}
 use Rattle.volume_file.specs.declared.fault.VolumeFault.TheVariants.{ShortHeader, Magic, Channels, Reserved, AxisZero, AxisLarge, TooMany, Truncated, Trailing, Read, Memory}
 use Rattle.volume_file.specs.Fault.{fault_of}
-use Rattle.volume_file.specs.Reading.{ReadsBody, FindsBadBody, FailsToReadBody}
+use Rattle.volume_file.specs.Reading.{Tells, ReadsBody, FindsBadBody, FailsToReadBody}
 use Rattle.volume_file.specs.Pieces.{ReadsBytes, FindsTooFew, FailsToReadBytes, AppendsPiece, FailsToAppend, FindsMore}
-use Rattle.seg_io.proofs.InputStates.{taken-min, taken-all, fails_later}
+use Rattle.seg_io.proofs.InputStates.{taken-min, taken-all, fails_later, fails_sooner}
 
 -- a piece by what it was filled with
 piece_front : (o : Option (List ℕ)) (got : ℕ) (piece before line : List ℕ) → IfSome o (λ bytes. take got piece ≡ take got bytes)
@@ -136,6 +136,7 @@ too_few got count n m before after old now new at few within h piece =
     let short : IfSome old.input (λ input. length input < n) = short_of old.input m count got n few within there rest in
     let all : IfSome old.input (λ input. m + got ≡ length input) = all_of old.input m count got few there rest in
     record {
+      few = omega arith;
       short = short;
       all = all;
       after = piece.moved
@@ -143,19 +144,20 @@ too_few got count n m before after old now new at few within h piece =
     }
 
 -- no piece was read
-pub no_piece : (n : ℕ) (bytes : List ℕ) (fault : VolumeFault) (old now new : DeskState) → HasRead bytes old now
-    → FailsToAppend fault now new → FailsToReadBytes n fault old new
-no_piece n bytes Read old now new h f = fails_later (length bytes) old now new h.after f
-no_piece n bytes Memory old now new h f = record { count = length bytes; after = f ∙ h.after }
-no_piece n bytes (ShortHeader got) old now new h f = absurd f
-no_piece n bytes Magic old now new h f = absurd f
-no_piece n bytes (Channels count) old now new h f = absurd f
-no_piece n bytes Reserved old now new h f = absurd f
-no_piece n bytes (AxisZero axis) old now new h f = absurd f
-no_piece n bytes (AxisLarge axis) old now new h f = absurd f
-no_piece n bytes TooMany old now new h f = absurd f
-no_piece n bytes (Truncated got) old now new h f = absurd f
-no_piece n bytes Trailing old now new h f = absurd f
+pub no_piece : (n count : ℕ) (bytes : List ℕ) (fault : VolumeFault) (old now new : DeskState) → length bytes + count ≤ n
+    → HasRead bytes old now → FailsToAppend count fault now new → FailsToReadBytes n fault old new
+no_piece n count bytes Read old now new within h f = fails_later (length bytes) (λ _. count) (λ _. n) old now new h.after
+    (for_some old.input (λ _. length bytes + count ≤ n) (λ _. within)) f
+no_piece n count bytes Memory old now new within h f = record { count = length bytes; after = f ∙ h.after }
+no_piece n count bytes (ShortHeader got) old now new within h f = absurd f
+no_piece n count bytes Magic old now new within h f = absurd f
+no_piece n count bytes (Channels channels) old now new within h f = absurd f
+no_piece n count bytes Reserved old now new within h f = absurd f
+no_piece n count bytes (AxisZero axis) old now new within h f = absurd f
+no_piece n count bytes (AxisLarge axis) old now new within h f = absurd f
+no_piece n count bytes TooMany old now new within h f = absurd f
+no_piece n count bytes (Truncated got) old now new within h f = absurd f
+no_piece n count bytes Trailing old now new within h f = absurd f
 
 -- all bytes were read
 pub all_read : (n : ℕ) (bytes : List ℕ) (old now : DeskState) → length bytes ≡ n → HasRead bytes old now → ReadsBytes n bytes old now
@@ -180,6 +182,19 @@ right_length : (a : Axes) (bytes : List ℕ) → length bytes ≡ edge_count a �
 unfolding body_flaw
 right_length a bytes size = grind (arith, nat_tests)
 
+-- some body is as short, and some is too long
+short_body : (a : Axes) (got : ℕ) → got < edge_count a → Tells (Truncated got) (body_flaw a (replicate got 0))
+short_body a got few =
+    let zeros : List ℕ = replicate got 0 in
+    let size : length zeros ≡ got = length-replicate got 0 in
+    ap (option_map fault_of) (too_short a zeros (subst (λ (n : ℕ). n < edge_count a) (sym size) few)) ∙ ap (λ (n : ℕ). Some (Truncated n)) size
+
+long_body : (a : Axes) → Tells Trailing (body_flaw a (replicate (edge_count a + 1) 0))
+long_body a =
+    let zeros : List ℕ = replicate (edge_count a + 1) 0 in
+    let size : length zeros ≡ edge_count a + 1 = length-replicate (edge_count a + 1) 0 in
+    ap (option_map fault_of) (too_long a zeros (subst (λ (n : ℕ). edge_count a < n) (sym size) (omega arith)))
+
 truncated_flaw : (o : Option (List ℕ)) (a : Axes) (got : ℕ) → IfSome o (λ input. length input < edge_count a)
     → IfSome o (λ input. got ≡ length input) → IfSome o (λ input. option_map fault_of (body_flaw a input) ≡ Some (Truncated got))
 truncated_flaw None a got short all = tt
@@ -197,12 +212,14 @@ no_body n a (Truncated got) old new e f =
     let short : IfSome old.input (λ input. length input < edge_count a) =
     subst (λ (k : ℕ). IfSome old.input (λ input. length input < k)) e f.short in
     record {
+      possible = (replicate got 0, short_body a got (subst (λ (k : ℕ). got < k) e f.few));
       flaw = truncated_flaw old.input a got short f.all;
       after = f.after
           ∙ (taken-all old n (weaker old.input n n (omega arith) f.short)
           ∙ sym (taken-all old (edge_count a + 1) (weaker old.input n (edge_count a + 1) (omega arith) f.short)));
     }
-no_body n a Read old new e f = f
+no_body n a Read old new e f = fails_sooner (λ _. n) (λ _. edge_count a + 1) old new
+    (for_some old.input (λ _. n ≤ edge_count a + 1) (λ _. omega arith)) f
 no_body n a Memory old new e f = f
 no_body n a (ShortHeader got) old new e f = absurd f
 no_body n a Magic old new e f = absurd f
@@ -212,6 +229,12 @@ no_body n a (AxisZero axis) old new e f = absurd f
 no_body n a (AxisLarge axis) old new e f = absurd f
 no_body n a TooMany old new e f = absurd f
 no_body n a Trailing old new e f = absurd f
+
+-- whether more than a body is left could not be found out
+pub no_more : (n : ℕ) (a : Axes) (bytes : List ℕ) (old now new : DeskState) → n ≡ edge_count a → ReadsBytes n bytes old now
+    → FailsAfterReading (λ _. 1) now new → FailsAfterReading (λ _. edge_count a + 1) old new
+no_more n a bytes old now new e h f = fails_later n (λ _. 1) (λ _. edge_count a + 1) old now new h.after
+    (for_some old.input (λ _. n + 1 ≤ edge_count a + 1) (λ _. omega arith)) f
 
 trailing_flaw : (o : Option (List ℕ)) (a : Axes) (more : Bool) → more ≡ true → IfSome o (λ input. edge_count a ≤ length input)
     → IfSome (option_map (drop (edge_count a)) o) (λ input. more ≡ nat_lt 0 (length input))
@@ -228,6 +251,7 @@ pub trailing : (n : ℕ) (a : Axes) (bytes : List ℕ) (more : Bool) (old now ne
 trailing n a bytes more old now new e found h m =
     let moved : now ≡ taken (edge_count a) old = h.after ∙ ap (λ (k : ℕ). taken k old) e in
     record {
+      possible = (replicate (edge_count a + 1) 0, long_body a);
       flaw = trailing_flaw old.input a more found (subst (λ (k : ℕ). IfSome old.input (λ input. k ≤ length input)) e h.there)
           (left_of (edge_count a) old now (λ input. more ≡ nat_lt 0 (length input)) moved m.whether);
       after = m.after ∙ (ap (taken 1) moved ∙ taken-taken (edge_count a) 1 old);

@@ -69,9 +69,18 @@ long_front bytes long =
     (ap (λ (xs : List ℕ). sum xs == 0) zeros) count (header_axes-front bytes)
     ∙ sym (header_by_parts bytes))
 
-header_flaw-front : (bytes : List ℕ) → header_flaw (take 32 bytes) ≡ header_flaw bytes
+pub header_flaw-front : (bytes : List ℕ) → header_flaw (take 32 bytes) ≡ header_flaw bytes
 header_flaw-front bytes =
     elim (cases_lt (length bytes) 32) [ inl short ↦ ap header_flaw (take_all 32 bytes (omega arith)) | inr long ↦ long_front bytes long ]
+
+sound_is_long : (bytes : List ℕ) → header_flaw bytes ≡ None → 32 ≤ length bytes
+sound_is_long bytes sound = by_parts-long (nat_lt (length bytes) 32) (starts_with nat_eq bytes volume_magic) (channels bytes == 3)
+    (sum (reserved bytes) == 0) (channels bytes) (length bytes) (header_axes bytes) refl (sym (header_by_parts bytes) ∙ sound)
+  where
+    by_parts-long : (short magic three zero : Bool) (count got : ℕ) (a : Axes) → nat_lt got 32 ≡ short
+        → by_parts short magic three zero count got a ≡ None → 32 ≤ got
+    by_parts-long true magic three zero count got a e none = cc none
+    by_parts-long false magic three zero count got a e none = grind (arith, nat_tests)
 
 -- the flaws that a header may have
 abbrev IsHeadFlaw : Option VolumeFlaw → Type 0
@@ -131,6 +140,14 @@ reads_head k buffer filled axes old new room fills sound says =
     let all : IfSome old.input (λ bytes. k ≡ min 32 (length bytes)) =
     subst (λ (n : ℕ). IfSome old.input (λ bytes. k ≡ min n (length bytes))) room fills.all in
     record {
+      header = (
+        take k filled,
+        record {
+          long = omega (arith, fills.room, room, length-take k filled, sound_is_long (take k filled) sound);
+          sound = sound;
+          says = says;
+        },
+      );
       sound = front_of old.input k filled (λ _ bytes. header_flaw bytes ≡ None) fills.front all
           (λ bytes e. sym (header_flaw-front bytes) ∙ (ap header_flaw (sym e) ∙ sound));
       says = front_of old.input k filled (λ _ bytes. axes ≡ header_axes bytes) fills.front all
@@ -146,6 +163,7 @@ finds_bad_head k buffer filled fault old new room fills flaw =
     let all : IfSome old.input (λ bytes. k ≡ min 32 (length bytes)) =
     subst (λ (n : ℕ). IfSome old.input (λ bytes. k ≡ min n (length bytes))) room fills.all in
     bad_head (header_flaw (take k filled)) fault old new (header_flaw-head (take k filled)) flaw record {
+      possible = (take k filled, flaw);
       flaw = front_of old.input k filled (λ _ bytes. option_map fault_of (header_flaw bytes) ≡ Some fault) fills.front all
           (λ bytes e. ap (option_map fault_of) (sym (header_flaw-front bytes) ∙ ap header_flaw (sym e)) ∙ flaw);
       after = fills.after ∙ taken-min old 32 k all;

@@ -1,16 +1,18 @@
 -- A whole volume file: its header, then its body.
-use Rattle.std.proofs.Common.{◌≡◌, ℕ, ◌+◌, true, List, drop, Option, Some, None, IfSome, is_some, if◌then◌else◌, refl, sym, ap, ◌∙◌, subst}
+use Rattle.std.proofs.Common.{◌≡◌, ℕ, ◌+◌, ◌≤◌, true, List, ◌++◌, take, drop, Option, Some, None, IfSome, is_some, if◌then◌else◌, refl, sym, ap, ◌∙◌, subst, arith}
 use Rattle.std.specs.Option.{option_map}
+use Rattle.std.proofs.lemmas.List.{take_at, drop_at}
 use Rattle.agglo_model.specs.Axes.{Axes, edge_count}
 use Rattle.agglo_model.specs.Grid.{Grid}
 use Rattle.agglo_model.specs.VolumeFile.{VolumeFlaw, header_flaw, header_axes, body_flaw, body, first_of_two, volume_flaw, volume_in}
 use Rattle.seg_io.specs.Desk.{DeskState, taken}
-use Rattle.seg_io.proofs.States.{taken-taken}
+use Rattle.seg_io.proofs.States.{for_some, taken-taken}
 use Rattle.volume_file.specs.declared.fault.VolumeFault.{VolumeFault}
 use Rattle.volume_file.specs.declared.fault.VolumeFault.TheVariants.{ShortHeader, Magic, Channels, Reserved, AxisZero, AxisLarge, TooMany, Truncated, Trailing, Read, Memory}
 use Rattle.volume_file.specs.Fault.{fault_of}
-use Rattle.volume_file.specs.Reading.{ReadsHead, FindsBadHead, FailsToReadHead, ReadsBody, FindsBadBody, FailsToReadBody, judged_length, ReadsVolume, FindsBadVolume, FailsToReadVolume}
-use Rattle.seg_io.proofs.InputStates.{emptied_later, takes_more, fails_later}
+use Rattle.volume_file.specs.Reading.{IsHeader, Tells, ReadsHead, FindsBadHead, FailsToReadHead, ReadsBody, FindsBadBody, FailsToReadBody, judged_length, ReadsVolume, FindsBadVolume, FailsToReadVolume}
+use Rattle.volume_file.proofs.Header.{header_flaw-front, header_axes-front}
+use Rattle.seg_io.proofs.InputStates.{emptied_later, takes_more, fails_later, fails_sooner}
 
 -- the header's flaw comes first
 head_first : (o later : Option VolumeFlaw) (fault : VolumeFault) → option_map fault_of o ≡ Some fault
@@ -36,11 +38,20 @@ judged_head (Some bytes) fault flaw = sym (told_head (header_flaw bytes) (32 + (
 
 bad_volume : (fault : VolumeFault) (old new : DeskState) → FindsBadHead fault old new → FindsBadVolume fault old new
 bad_volume fault old new f = record {
+  possible = (f.possible.0, head_first (header_flaw f.possible.0) (body_flaw (header_axes f.possible.0) (body f.possible.0)) fault f.possible.1);
   flaw = head_flaw old.input fault f.flaw;
   count = 32;
   judged = judged_head old.input fault f.flaw;
   after = f.after;
 }
+
+-- of any file the header is read
+head_judged : (bytes : List ℕ) → 32 ≤ judged_length bytes
+head_judged bytes = by_flaw (header_flaw bytes) (edge_count (header_axes bytes))
+  where
+    by_flaw : (flaw : Option VolumeFlaw) (n : ℕ) → 32 ≤ (if is_some flaw then 32 else (32 + (n + 1)))
+    by_flaw None n = omega arith
+    by_flaw (Some flaw) n = omega arith
 
 -- the header was not read
 pub no_head : (fault : VolumeFault) (old new : DeskState) → FailsToReadHead fault old new → FailsToReadVolume fault old new
@@ -53,7 +64,7 @@ no_head (AxisLarge axis) old new f = bad_volume (AxisLarge axis) old new f
 no_head TooMany old new f = bad_volume TooMany old new f
 no_head (Truncated got) old new f = absurd f
 no_head Trailing old new f = absurd f
-no_head Read old new f = f
+no_head Read old new f = fails_sooner (λ _. 32) judged_length old new (for_some old.input (λ bytes. 32 ≤ judged_length bytes) head_judged) f
 no_head Memory old new f = absurd f
 
 -- a sound header leaves the flaw to the body
@@ -89,16 +100,34 @@ says_after (Some bytes) a volume same says body_is =
     λ i. record { axes = axes i; bytes = body_is i }
 
 -- of a file whose header is sound the body is read, and one byte more
-judged_after : (o : Option (List ℕ)) (a : Axes) → IfSome o (λ bytes. header_flaw bytes ≡ None)
+pub judged_after : (o : Option (List ℕ)) (a : Axes) → IfSome o (λ bytes. header_flaw bytes ≡ None)
     → IfSome o (λ bytes. a ≡ header_axes bytes) → IfSome o (λ bytes. 32 + (edge_count a + 1) ≡ judged_length bytes)
 judged_after None a sound says = tt
 judged_after (Some bytes) a sound says =
     ap (λ (x : Axes). 32 + (edge_count x + 1)) says
     ∙ sym (ap (λ (o : Option VolumeFlaw). if is_some o then 32 else (32 + (edge_count (header_axes bytes) + 1))) sound)
 
+-- a header with this body after it is a file
+pub whole_of : (a : Axes) (head rest : List ℕ) → IsHeader a head
+    → (header_flaw (head ++ rest) ≡ None) × ((a ≡ header_axes (head ++ rest)) × (body (head ++ rest) ≡ rest))
+whole_of a head rest is =
+    let front : take 32 (head ++ rest) ≡ head = take_at head rest 32 is.long in (
+      sym (header_flaw-front (head ++ rest)) ∙ (ap header_flaw front ∙ is.sound),
+      (is.says ∙ (ap header_axes (sym front) ∙ header_axes-front (head ++ rest)), drop_at head rest 32 is.long),
+    )
+
+possible_after : (a : Axes) (fault : VolumeFault) → ((bytes : List ℕ) × IsHeader a bytes)
+    → ((bytes : List ℕ) × Tells fault (body_flaw a bytes)) → (bytes : List ℕ) × Tells fault (volume_flaw bytes)
+possible_after a fault head rest =
+    let whole = whole_of a head.0 rest.0 head.1 in (
+      head.0 ++ rest.0,
+      ap (option_map fault_of) (sound_head (head.0 ++ rest.0) a whole.0 whole.1.0 ∙ ap (body_flaw a) whole.1.1) ∙ rest.1,
+    )
+
 bad_after : (a : Axes) (fault : VolumeFault) (old now new : DeskState) → ReadsHead a old now → FindsBadBody a fault now new
     → FindsBadVolume fault old new
 bad_after a fault old now new h f = record {
+  possible = possible_after a fault h.header f.possible;
   flaw = flaw_after old.input a (Some fault) h.sound h.says
       (body_left old now (λ bytes. option_map fault_of (body_flaw a bytes) ≡ Some fault) h.after f.flaw);
   count = 32 + (edge_count a + 1);
@@ -106,12 +135,17 @@ bad_after a fault old now new h f = record {
   after = f.after ∙ (ap (taken (edge_count a + 1)) h.after ∙ taken-taken 32 (edge_count a + 1) old);
 }
 
+within_judged : (o : Option (List ℕ)) (n : ℕ) → IfSome o (λ bytes. n ≡ judged_length bytes) → IfSome o (λ bytes. n ≤ judged_length bytes)
+within_judged None n e = tt
+within_judged (Some bytes) n e = omega arith
+
 -- the header was read, and the body was not
 pub no_body_after : (a : Axes) (fault : VolumeFault) (old now new : DeskState) → ReadsHead a old now
     → FailsToReadBody a fault now new → FailsToReadVolume fault old new
 no_body_after a (Truncated got) old now new h f = bad_after a (Truncated got) old now new h f
 no_body_after a Trailing old now new h f = bad_after a Trailing old now new h f
-no_body_after a Read old now new h f = fails_later 32 old now new h.after f
+no_body_after a Read old now new h f = fails_later 32 (λ _. edge_count a + 1) judged_length old now new h.after
+    (within_judged old.input (32 + (edge_count a + 1)) (judged_after old.input a h.sound h.says)) f
 no_body_after a Memory old now new h f = takes_more 32 old now new h.after f
 no_body_after a (ShortHeader got) old now new h f = absurd f
 no_body_after a Magic old now new h f = absurd f

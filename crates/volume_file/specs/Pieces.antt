@@ -13,6 +13,7 @@ pub record ReadsBytes (n : ℕ) (bytes : List ℕ) (old new : DeskState) : Type 
 
 -- There were fewer than n bytes. All were taken off.
 pub record FindsTooFew (n got : ℕ) (old new : DeskState) : Type 0 where
+  pub few : got < n
   pub short : IfSome old.input (λ input. length input < n)
   pub all : IfSome old.input (λ input. got ≡ length input)
   pub after : new ≡ taken n old
@@ -20,7 +21,7 @@ pub record FindsTooFew (n got : ℕ) (old new : DeskState) : Type 0 where
 -- n bytes were not read: there were fewer, a read failed, or there was no memory
 abbrev pub FailsToReadBytes : ℕ → VolumeFault → DeskState → DeskState → Type 0
 FailsToReadBytes n (Truncated got) old new = FindsTooFew n got old new
-FailsToReadBytes n Read old new = FailsAfterReading old new
+FailsToReadBytes n Read old new = FailsAfterReading (λ _. n) old new
 FailsToReadBytes n Memory old new = TakesSome old new
 FailsToReadBytes n fault old new = ⊥
 
@@ -34,10 +35,10 @@ pub record AppendsPiece (got count : ℕ) (before after : List ℕ) (old new : D
   pub moved : new ≡ taken got old
 
 -- nothing was appended: a read failed, or there was no memory, and then nothing was read
-abbrev pub FailsToAppend : VolumeFault → DeskState → DeskState → Type 0
-FailsToAppend Read old new = FailsAfterReading old new
-FailsToAppend Memory old new = new ≡ old
-FailsToAppend fault old new = ⊥
+abbrev pub FailsToAppend : ℕ → VolumeFault → DeskState → DeskState → Type 0
+FailsToAppend count Read old new = FailsAfterReading (λ _. count) old new
+FailsToAppend count Memory old new = new ≡ old
+FailsToAppend count fault old new = ⊥
 
 -- Whether the input had a byte. One was taken off.
 pub record FindsMore (more : Bool) (old new : DeskState) : Type 0 where

@@ -60,7 +60,7 @@ fn append_piece<D: Desk>(
     requires fits { vec_len bytes.old + count ≤ 4294967295 }
     ensures { MatchResult result
         (λ got. AppendsPiece got count bytes.old.items bytes.new.items (D.state desk.old) (D.state desk.new))
-        (λ fault. FailsToAppend fault (D.state desk.old) (D.state desk.new)) }
+        (λ fault. FailsToAppend count fault (D.state desk.old) (D.state desk.new)) }
 {
     let start = bytes.len();
     bytes.resize(start + count, 0)?;
@@ -73,7 +73,7 @@ fn has_more<D: Desk>(desk: &mut D) -> Result<bool, Failed>
     requires { (D.state desk.old).has_input ≡ true }
     ensures { MatchResult result
         (λ more. FindsMore more (D.state desk.old) (D.state desk.new))
-        (λ _. FailsAfterReading (D.state desk.old) (D.state desk.new)) }
+        (λ _. FailsAfterReading (λ _. 1) (D.state desk.old) (D.state desk.new)) }
 {
     let mut byte = [0];
     let got = fill(desk, &mut byte)?;

@@ -13,7 +13,7 @@ returns-in_err-head g c =
 pub returns-in_err-body : goal.returns-in_err-body
 returns-in_err-body g c =
     let p = err_from_is_err_and c.from_residual-in_err-body.result c.from_residual-in_err-body.ensures.1 in
-    rw (p.1, p.2) (no_rest c.in_ok-head.head c.in_err-body.field-0.0 _ _ _ c.in_ok-head.ensures c.in_err-body.ensures)
+    rw (p.1, p.2) (no_rest c.in_ok-head.head _ c.in_err-body.field-0.0 _ _ _ refl c.in_ok-head.ensures c.in_err-body.ensures)
 
 pub returns : goal.returns
 returns g c =

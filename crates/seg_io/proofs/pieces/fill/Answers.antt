@@ -13,7 +13,7 @@ read-requires-clause-open g c = ap (λ (s : DeskState). s.has_input) c.loop-fill
 pub returns-in_err-got : goal.returns-in_err-got
 returns-in_err-got g c =
     let p = err_from_is_err_and c.from_residual.result c.from_residual.ensures.1 in
-    rw p.1 (fails_after _ _ _ _ _ c.loop-filled.invariant c.in_err-got.ensures)
+    rw p.1 (fails_after _ _ _ _ _ _ c.loop-filled.auto.into c.loop-filled-test.true c.loop-filled.invariant c.in_err-got.ensures)
 
 pub loop-filled-preserved : goal.loop-filled-preserved
 loop-filled-preserved g c =

@@ -12,7 +12,7 @@ append_piece-requires-clause-open g c = still_open _ _ _ c.loop-bytes.invariant.
 pub returns-in_err-got : goal.returns-in_err-got
 returns-in_err-got g c =
     let p = err_from_is_err_and c.from_residual-in_err-got.result c.from_residual-in_err-got.ensures.1 in
-    rw (p.1, p.2) (no_piece c.args.length _ _ _ _ _ c.loop-bytes.invariant.0 c.in_err-got.ensures)
+    rw (p.1, p.2) (no_piece c.args.length _ _ _ _ _ _ (omega arith) c.loop-bytes.invariant.0 c.in_err-got.ensures)
 
 pub returns-then-got-count : goal.returns-then-got-count
 returns-then-got-count g c =
