@@ -15,7 +15,7 @@ const MOST_DIGITS: usize = 10;
 const GREATEST_NUMBER: u64 = 4_294_967_295;
 
 /// The greatest size, in voxels.
-const MOST_VOXELS: u64 = 65_535;
+const GREATEST_SIZE: u64 = 65_535;
 
 /// Whether a word may name a file: it is not empty and does not begin with `-`.
 pub fn is_name(word: &str) -> bool
@@ -84,9 +84,9 @@ pub fn parse_sizes(word: &str) -> Option<[u32; 3]>
 {
     let (first, others) = cut_at(word, ',')?;
     let (second, third) = cut_at(others, ',')?;
-    let x = parse_number(first, 1, MOST_VOXELS)?;
-    let y = parse_number(second, 1, MOST_VOXELS)?;
-    let z = parse_number(third, 1, MOST_VOXELS)?;
+    let x = parse_number(first, 1, GREATEST_SIZE)?;
+    let y = parse_number(second, 1, GREATEST_SIZE)?;
+    let z = parse_number(third, 1, GREATEST_SIZE)?;
     Some([x as u32, y as u32, z as u32])
 }
 

@@ -21,7 +21,8 @@ pub const MAGIC: &[u8] = b"AFFTRE01";
 /// `Read` or `Memory`.
 ///
 /// Memory is taken for the records that come, and not for those that the header claims. All of them
-/// are read before the first one is judged, and one byte more where there is one.
+/// are read before the first one is judged, and one byte more where there is one. While records are
+/// judged, a byte for each voxel of the axes tells which names were absorbed.
 pub fn read_tree<D: Desk>(alloc: Global, desk: &mut D) -> Result<Tree, TreeFault>
     requires { (D.state desk.old).has_input ≡ true }
     ensures { MatchResult result
