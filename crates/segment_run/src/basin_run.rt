@@ -13,7 +13,8 @@ use std::thread::{Threads, join};
 use steepest_ascent::{Ends, whole_basins};
 use volume_file::Volume;
 
-/// The basin labels of a volume, worked out leaf by leaf of a cutting, in several threads.
+/// The basin labels of a volume, one for each voxel in order of number, worked out leaf by leaf of a cutting
+/// in several threads. The only error is want of memory.
 pub fn basins<R: Threads + Sync>(
     rt: &R,
     alloc: Global,

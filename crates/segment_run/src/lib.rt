@@ -1,8 +1,8 @@
 //! The runs of the program over a volume that is cut into chunks: its basins, worked out in as many threads as
 //! there are processors, and its segmentation, level by level, in several lanes.
 //!
-//! It stands on `face_pointers` and `steepest_ascent` for basins, and on `chunk_run` and `merge_tree` for
-//! merging. The commands stand on it.
+//! It stands on `face_pointers` and `steepest_ascent` for basins, on `rayon` for their threads, and on
+//! `chunk_run` and `merge_tree` for merging. The program stands on it, and so do its checks (`segment_checks`).
 #![tactic(auto)]
 
 mod answer;
