@@ -31,7 +31,6 @@ fn two_leaves_under_a_root(rt: HostRuntime) -> Result<(), Fail> {
         ),
         (0, 0, 1)
     );
-    assert_eq!(rt; (cutting.level_end(0), cutting.level_end(1)), (2, 3));
     assert_eq!(rt;
         (cutting.parent(0), cutting.parent(1), cutting.parent(2)),
         (Some(2), Some(2), None)
@@ -39,6 +38,15 @@ fn two_leaves_under_a_root(rt: HostRuntime) -> Result<(), Fail> {
     assert_eq!(rt; (cutting.child_count(0), cutting.child_count(1)), (0, 0));
     assert!(rt; cutting.child_count(2) == 2);
     assert_eq!(rt; (cutting.child(2, 0), cutting.child(2, 1)), (0, 1));
+    Ok(())
+}
+
+#[test]
+fn levels_of_two_leaves_and_a_root(rt: HostRuntime) -> Result<(), Fail> {
+    let cutting = cut(8, 1, 1, [6, 1, 1])?;
+    let levels = cutting.levels();
+    assert!(rt; levels == 2);
+    assert_eq!(rt; (cutting.level_end(0), cutting.level_end(1)), (2, 3));
     Ok(())
 }
 
