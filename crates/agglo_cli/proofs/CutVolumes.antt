@@ -15,6 +15,7 @@ use Rattle.volume_file.specs.declared.fault.VolumeFault.{VolumeFault}
 use Rattle.volume_file.specs.declared.fault.VolumeFault.TheVariants.{ShortHeader, Magic, Channels, Reserved, AxisZero, AxisLarge, TooMany, Truncated, Trailing, Read, Memory}
 use Rattle.volume_file.specs.Fault.{fault_of}
 use Rattle.volume_file.specs.Reading.{IsHeader, Tells, ReadsHead, FindsBadHead, FailsToReadHead, ReadsBody, FindsBadBody, FailsToReadBody, judged_length}
+use Rattle.seg_io.proofs.Bytes.{same_bytes, joined_bytes}
 use Rattle.seg_io.proofs.States.{for_some, taken-taken}
 use Rattle.seg_io.proofs.InputStates.{fails_later, fails_sooner}
 use Rattle.volume_file.proofs.Whole.{judged_after, whole_of, reads_volume as whole_volume}
@@ -22,7 +23,7 @@ use Rattle.refusals.specs.declared.refusal.Refusal.{Refusal}
 use Rattle.refusals.specs.declared.refusal.Refusal.TheVariants.{Volume, Leaves}
 use Rattle.refusals.specs.Refusal.{volume_refusal}
 use Rattle.agglo_cli.specs.Answers.{ReadsCutVolume}
-use Rattle.agglo_cli.specs.Flaws.{volume_flaw_refusal, sizes_refusal, leaves_refusal, segment_refusal, segment_judged, SomeBytesHave, RefusesInput, RefusesNumbers}
+use Rattle.agglo_cli.specs.Flaws.{volume_flaw_refusal, sizes_refusal, leaves_refusal, segment_refusal, segment_judged, RefusesInput, RefusesNumbers}
 use Rattle.agglo_cli.proofs.ReadFile.{if_some, if_both, any_bytes, opens_file, judges_file, fails_to_read, reads_volume, told_flaw}
 
 -- ---- the number of leaves
@@ -96,7 +97,7 @@ head_first None None n = omega arith
 bad_head : (name chunk : List ℕ) (fault : VolumeFault) (s t u : DeskState) → OpensInput name s t → FindsBadHead fault t u
     → RefusesInput (segment_refusal chunk) (segment_judged chunk) name (Volume fault) s u
 bad_head name chunk fault s t u o f = (
-  (f.possible.0, first_flaw (header_flaw f.possible.0) _ fault f.possible.1),
+  same_bytes (λ bytes. first_flaw (header_flaw bytes) _ fault) f.possible,
   judges_file name _ (segment_judged chunk) header_length s t u o
       (if_some t.input _ _ (λ bytes e. first_flaw (header_flaw bytes) _ fault e) f.flaw)
       (if_some t.input _ (λ bytes. header_length ≡ segment_judged chunk bytes)
@@ -143,7 +144,7 @@ many_leaves : (name chunk : List ℕ) (axes : Axes) (leaves : ℕ) (s t u : Desk
     → leaves_refusal axes chunk ≡ Some (Leaves leaves)
     → RefusesInput (segment_refusal chunk) (segment_judged chunk) name (Leaves leaves) s u
 many_leaves name chunk axes leaves s t u o r e = (
-  (r.header.0, leaves_flaw axes chunk leaves r.header.0 e r.header.1.sound r.header.1.says),
+  same_bytes (λ bytes is. leaves_flaw axes chunk leaves bytes e is.sound is.says) r.header,
   judges_file name _ (segment_judged chunk) header_length s t u o
       (if_both t.input _ _ _ (λ bytes sound says. leaves_flaw axes chunk leaves bytes e sound says) r.sound r.says)
       (if_some t.input _ (λ bytes. header_length ≡ segment_judged chunk bytes) (λ bytes says. leaves_judged axes chunk leaves bytes says e) r.says) r.after,
@@ -181,14 +182,12 @@ only_body axes chunk bytes few sound says = after_head axes chunk bytes sound sa
     ∙ ap (λ (l : Option Refusal). option_or l (volume_flaw_refusal (body_flaw axes (body bytes)))) few
 
 -- the header with a body that has the flaw
-possible_after : (chunk : List ℕ) (axes : Axes) (fault : VolumeFault) → ((bytes : List ℕ) × IsHeader axes bytes) → leaves_refusal axes chunk ≡ None
-    → ((bytes : List ℕ) × Tells fault (body_flaw axes bytes)) → SomeBytesHave (segment_refusal chunk) (Volume fault)
-possible_after chunk axes fault head few rest =
-    let whole = whole_of axes head.0 rest.0 head.1 in (
-      head.0 ++ rest.0,
-      only_body axes chunk (head.0 ++ rest.0) few whole.0 whole.1.0
-          ∙ (ap (λ (bytes : List ℕ). volume_flaw_refusal (body_flaw axes bytes)) whole.1.1 ∙ told_flaw (body_flaw axes rest.0) fault rest.1),
-    )
+possible_after : (chunk : List ℕ) (axes : Axes) (fault : VolumeFault) → leaves_refusal axes chunk ≡ None → (head rest : List ℕ)
+    → IsHeader axes head → Tells fault (body_flaw axes rest) → segment_refusal chunk (head ++ rest) ≡ Some (Volume fault)
+possible_after chunk axes fault few head rest is tells =
+    let whole = whole_of axes head rest is in
+    only_body axes chunk (head ++ rest) few whole.0 whole.1.0
+    ∙ (ap (λ (bytes : List ℕ). volume_flaw_refusal (body_flaw axes bytes)) whole.1.1 ∙ told_flaw (body_flaw axes rest) fault tells)
 
 bad_body : (name chunk : List ℕ) (axes : Axes) (fault : VolumeFault) (s t u v : DeskState) → OpensInput name s t → ReadsHead axes t u
     → leaves_refusal axes chunk ≡ None → FindsBadBody axes fault u v
@@ -197,7 +196,7 @@ bad_body name chunk axes fault s t u v o r few f =
     let flaw = body_input axes t u (λ bytes. option_map fault_of (body_flaw axes bytes) ≡ Some fault) r f.flaw in
     let judged = if_both t.input _ _ (λ bytes. segment_refusal chunk bytes ≡ volume_flaw_refusal (body_flaw axes (body bytes)))
     (λ bytes sound says. only_body axes chunk bytes few sound says) r.sound r.says in (
-      possible_after chunk axes fault r.header few f.possible,
+      joined_bytes (possible_after chunk axes fault few) r.header f.possible,
       judges_file name _ (segment_judged chunk) (header_length + (edge_count axes + 1)) s t v o
           (if_both t.input _ _ _ (λ bytes e k. e ∙ told_flaw (body_flaw axes (body bytes)) fault k) judged flaw)
           (body_judged axes chunk t u r few)

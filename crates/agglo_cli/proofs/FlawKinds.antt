@@ -50,13 +50,13 @@ of_either None later refusal f g e = g refusal e
 of_either (Some r) later refusal f g e = f refusal e
 
 pub volume_kind : (refusal : Refusal) → SomeBytesHave basins_refusal refusal → IsOfVolume refusal
-volume_kind refusal h = of_volume IsOfVolume (λ _. tt) (volume_flaw h.0) refusal h.1
+volume_kind refusal h = of_volume IsOfVolume (λ _. tt) (volume_flaw h.bytes) refusal h.holds
 
 pub cut_kind : (chunk : List ℕ) (refusal : Refusal) → SomeBytesHave (segment_refusal chunk) refusal → IsOfCut refusal
 cut_kind chunk refusal h =
-    of_either (volume_flaw_refusal (header_flaw h.0)) _ refusal (of_volume IsOfCut (λ _. tt) (header_flaw h.0))
-    (λ r. of_either (leaves_refusal (header_axes h.0) chunk) _ r (of_leaves (sizes_flaw (header_axes h.0) chunk))
-    (of_volume IsOfCut (λ _. tt) (body_flaw (header_axes h.0) (body h.0)))) h.1
+    of_either (volume_flaw_refusal (header_flaw h.bytes)) _ refusal (of_volume IsOfCut (λ _. tt) (header_flaw h.bytes))
+    (λ r. of_either (leaves_refusal (header_axes h.bytes) chunk) _ r (of_leaves (sizes_flaw (header_axes h.bytes) chunk))
+    (of_volume IsOfCut (λ _. tt) (body_flaw (header_axes h.bytes) (body h.bytes)))) h.holds
 
 pub tree_kind : (refusal : Refusal) → SomeBytesHave show_refusal refusal → IsOfTree refusal
-tree_kind refusal h = of_tree (tree_flaw h.0) refusal h.1
+tree_kind refusal h = of_tree (tree_flaw h.bytes) refusal h.holds

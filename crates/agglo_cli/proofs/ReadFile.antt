@@ -7,6 +7,7 @@ use Rattle.agglo_model.specs.Count.{Rose}
 use Rattle.agglo_model.specs.Grid.{Grid}
 use Rattle.agglo_model.specs.VolumeFile.{VolumeFlaw, volume_flaw}
 use Rattle.seg_io.specs.Desk.{DeskState, File, file_named, taken, OpensInput, FailsToOpenInput, FailsAfterReading}
+use Rattle.seg_io.proofs.Bytes.{same_bytes}
 use Rattle.volume_file.specs.declared.fault.VolumeFault.{VolumeFault}
 use Rattle.volume_file.specs.declared.fault.VolumeFault.TheVariants.{ShortHeader, Magic, Channels, Reserved, AxisZero, AxisLarge, TooMany, Truncated, Trailing, Read, Memory}
 use Rattle.volume_file.specs.Fault.{fault_of}
@@ -175,7 +176,7 @@ told_flaw (Some flaw) fault e = ap (option_map Volume) e
 bad_volume : (name : List ℕ) (fault : VolumeFault) (s t u : DeskState) → OpensInput name s t → FindsBadVolume fault t u
     → RefusesInput basins_refusal basins_judged name (Volume fault) s u
 bad_volume name fault s t u o f = (
-  (f.possible.0, told_flaw (volume_flaw f.possible.0) fault f.possible.1),
+  same_bytes (λ bytes. told_flaw (volume_flaw bytes) fault) f.possible,
   judges_file name _ basins_judged f.count s t u o
       (if_some t.input _ _ (λ bytes e. told_flaw (volume_flaw bytes) fault e) f.flaw) f.judged f.after,
 )

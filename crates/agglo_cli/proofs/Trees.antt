@@ -3,6 +3,7 @@ use Rattle.std.proofs.Common.{◌≡◌, List, ℕ, Option, Some, None, IfSome, 
 use Rattle.std.specs.Option.{option_map}
 use Rattle.agglo_model.specs.TreeFile.{MergeTree, TreeFlaw, tree_flaw}
 use Rattle.seg_io.specs.Desk.{DeskState, OpensInput}
+use Rattle.seg_io.proofs.Bytes.{same_bytes}
 use Rattle.merge_tree.specs.declared.tree_fault.TreeFault.{TreeFault}
 use Rattle.merge_tree.specs.declared.tree_fault.TreeFault.TheVariants.{ShortHeader, Magic, Dims, Denominator, Count, Truncated, Trailing, Names, Contact, Order, Below, Read, Memory}
 use Rattle.merge_tree.specs.TreeFault.{fault_of}
@@ -30,7 +31,7 @@ read_is (Some bytes) = refl
 bad_tree : (name : List ℕ) (fault : TreeFault) (s t u : DeskState) → OpensInput name s t → FindsBadTree fault t u
     → RefusesInput show_refusal show_judged name (Tree fault) s u
 bad_tree name fault s t u o f = (
-  (f.possible.0, told_flaw (tree_flaw f.possible.0) fault f.possible.1),
+  same_bytes (λ bytes. told_flaw (tree_flaw bytes) fault) f.possible,
   judges_file name _ show_judged (read_count t.input) s t u o
       (if_some t.input _ _ (λ bytes e. told_flaw (tree_flaw bytes) fault e) f.flaw) (read_is t.input) f.after,
 )

@@ -10,6 +10,7 @@ use Rattle.volume_file.specs.Fault.{fault_of}
 use Rattle.volume_file.specs.Reading.{judged_length}
 use Rattle.merge_tree.specs.TreeFault.{fault_of as tree_fault_of}
 use Rattle.merge_tree.specs.TreeReading.{judged_length as tree_judged_length}
+use Rattle.seg_io.specs.Bytes.{SomeBytes}
 use Rattle.seg_io.specs.Desk.{DeskState}
 use Rattle.refusals.specs.declared.refusal.Refusal.{Refusal}
 use Rattle.refusals.specs.declared.refusal.Refusal.TheVariants.{Memory, Words, Volume, Leaves, Input, Output, Tree}
@@ -61,7 +62,7 @@ show_judged bytes = tree_judged_length bytes
 
 -- some bytes are refused for this cause
 abbrev pub SomeBytesHave : (List ℕ → Option Refusal) → Refusal → Type 0
-SomeBytesHave refusal_of refusal = (bytes : List ℕ) × (refusal_of bytes ≡ Some refusal)
+SomeBytesHave refusal_of refusal = SomeBytes (λ bytes. refusal_of bytes ≡ Some refusal)
 
 -- The input of this name was not read, for this cause. Bytes are refused for a flaw that such a file may have,
 -- and it is the one that `refusal_of` tells of them, once as many are taken as `judged` says. A fault comes before that.

@@ -112,14 +112,15 @@ reads_head k buffer filled head old new room fills sound says =
     let all : IfSome old.input (λ bytes. k ≡ min header_length (length bytes)) =
     subst (λ (n : ℕ). IfSome old.input (λ bytes. k ≡ min n (length bytes))) room fills.all in
     record {
-      header_is = (
-        take k filled,
-        record {
+      header_is = record {
+        bytes = take k filled;
+        fit = fills.fit;
+        holds = record {
           long = omega (arith, fills.room, room, length-take k filled, sound_is_long (take k filled) sound);
           sound = sound;
           says = says;
-        },
-      );
+        };
+      };
       sound = header_of old.input k filled (λ bytes. header_flaw bytes ≡ None) fills.front all sound;
       says = header_of old.input k filled (λ bytes. SaysHead head bytes) fills.front all says;
       after = fills.after ∙ taken-min old header_length k all;
@@ -138,7 +139,11 @@ finds_bad_head k buffer filled fault old new room fills tells =
     subst (λ (n : ℕ). IfSome old.input (λ bytes. k ≡ min n (length bytes))) room fills.all in
     let short : length (take k filled) ≤ header_length = omega (arith, fills.room, room, length-take k filled) in
     bad_head fault (header_flaw (take k filled)) old new tells record {
-      possible = (take k filled, subst (λ (bytes : List ℕ). Tells fault (header_flaw bytes)) (sym (take_all header_length (take k filled) short)) tells);
+      possible = record {
+        bytes = take k filled;
+        fit = fills.fit;
+        holds = subst (λ (bytes : List ℕ). Tells fault (header_flaw bytes)) (sym (take_all header_length (take k filled) short)) tells;
+      };
       flaw = header_of old.input k filled (λ bytes. Tells fault (header_flaw bytes)) fills.front all tells;
       after = fills.after ∙ taken-min old header_length k all;
     }

@@ -1,7 +1,9 @@
 -- Bytes that are read in pieces, up to a limit or to the end of the input.
-use Rattle.std.proofs.Common.{◌≡◌, ℕ, ◌+◌, ◌≤◌, true, List, [], ◌++◌, length, take, drop, min, Option, Some, None, IfSome, refl, sym, ap, ◌∙◌, subst, arith, length-drop}
+use Rattle.std.proofs.Common.{◌≡◌, ℕ, ◌+◌, ◌<◌, ◌≤◌, true, List, [], ◌++◌, length, take, drop, min, Option, Some, None, IfSome, refl, sym, ap, ◌∙◌, subst, arith, length-drop}
+use Rattle.std.specs.Prelude.{All}
 use Rattle.std.specs.Option.{option_map}
 use Rattle.std.proofs.Math.Seq.{take-add}
+use Rattle.std.proofs.lemmas.List.Elements.{All-nil}
 use Rattle.seg_io.specs.Desk.{DeskState, taken}
 use Rattle.seg_io.proofs.States.{for_some, taken-none, taken-taken}
 use Rattle.merge_tree.specs.declared.tree_fault.InputFault.{InputFault}
@@ -13,6 +15,7 @@ use Rattle.seg_io.proofs.InputStates.{fails_later}
 pub record HasRead (bytes : List ℕ) (old now : DeskState) : Type 0 where
   pub there : IfSome old.input (λ input. length bytes ≤ length input)
   pub says : IfSome old.input (λ input. bytes ≡ take (length bytes) input)
+  pub fit : All (λ byte. byte < 256) bytes
   pub after : now ≡ taken (length bytes) old
 
 pub nothing_read : (bytes : List ℕ) (s : DeskState) → bytes ≡ [] → HasRead bytes s s
@@ -20,6 +23,7 @@ nothing_read bytes s none =
     subst (λ (xs : List ℕ). HasRead xs s s) (sym none) record {
       there = for_some s.input (λ input. 0 ≤ length input) (λ input. omega arith);
       says = for_some s.input (λ input. [] ≡ take 0 input) (λ input. refl);
+      fit = All-nil (λ byte. byte < 256);
       after = sym (taken-none s);
     }
 
@@ -57,6 +61,7 @@ read_more got count before after old now new h piece =
           (left_of (length before) old now (λ input. got ≡ min count (length input)) h.after piece.all);
       says = says_more old.input before after got (length after) size h.says
           (left_of (length before) old now (λ input. after ≡ before ++ take got input) h.after piece.front);
+      fit = piece.fit h.fit;
       after = piece.moved
           ∙ (ap (taken got) h.after ∙ (taken-taken (length before) got old ∙ ap (λ (n : ℕ). taken n old) (sym size)));
     }

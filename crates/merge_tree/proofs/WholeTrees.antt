@@ -8,6 +8,7 @@ use Rattle.agglo_model.specs.VolumeFile.{header_length, header_axes, body}
 use Rattle.agglo_model.specs.TreeFile.{MergeTree, TreeFlaw, header, header_threshold, header_merges, header_flaw, body_flaw, records_flaw, merges_in, record_length, tree_flaw, tree_in}
 use Rattle.agglo_model.proofs.TreeBodies.{short_body, long_body, whole_body, cut_body, whole_length}
 use Rattle.seg_io.specs.Desk.{DeskState, taken}
+use Rattle.seg_io.proofs.Bytes.{same_bytes, joined_bytes}
 use Rattle.seg_io.proofs.States.{for_some, taken-taken}
 use Rattle.seg_io.proofs.InputStates.{taken-all, emptied_later, takes_more, fails_later, fails_sooner}
 use Rattle.merge_tree.specs.declared.tree_records.Head.{Head}
@@ -58,7 +59,7 @@ no_head Read old new f = fails_sooner (λ _. header_length) judged_length old ne
     (for_some old.input (λ bytes. header_length ≤ judged_length bytes) (λ bytes. omega arith)) f
 no_head Memory old new f = record { count = header_length; after = f.after }
 no_head fault old new f = record {
-  possible = (f.possible.0, told_first (header_flaw (header f.possible.0)) _ fault f.possible.1);
+  possible = same_bytes (λ bytes. told_first (header_flaw (header bytes)) _ fault) f.possible;
   flaw = head_flaw fault old.input f.flaw;
   after = f.after ∙ ap (λ (i : Option (List ℕ)). record old { input = i }) (head_taken fault old.input f.flaw);
 }
@@ -145,19 +146,17 @@ all_taken None head most e sound says = refl
 all_taken (Some input) head most e sound says =
     ap (λ (n : ℕ). Some (drop n input)) (rest_judged (Some input) head most e sound says)
 
--- a header with this body after it is a file
-possible_after : (fault : TreeFault) (head : Head) (rest : List ℕ) → ((bytes : List ℕ) × IsHeader head bytes)
-    → Tells fault (body_flaw head.dims head.threshold head.merges rest) → (bytes : List ℕ) × Tells fault (tree_flaw bytes)
-possible_after fault head rest first tells =
-    let front : header (first.0 ++ rest) ≡ first.0 = take_at first.0 rest header_length first.1.long in
-    let after : body (first.0 ++ rest) ≡ rest = drop_at first.0 rest header_length first.1.long in
-    let says : SaysHead head (header (first.0 ++ rest)) = subst (SaysHead head) (sym front) first.1.says in (
-      first.0 ++ rest,
-      ap (option_map fault_of)
-          (ap (λ (o : Option TreeFlaw). option_or o (body_flaw (header_axes (header (first.0 ++ rest))) (header_threshold (header (first.0 ++ rest))) (header_merges (header (first.0 ++ rest))) (body (first.0 ++ rest)))) (ap header_flaw front ∙ first.1.sound)
-          ∙ ((λ i. body_flaw (sym says.axes i) (sym says.threshold i) (sym says.merges i) (body (first.0 ++ rest)))
-          ∙ ap (body_flaw head.dims head.threshold head.merges) after)) ∙ tells,
-    )
+-- a header with this body after it is a file, and its flaw is that of the body
+possible_after : (fault : TreeFault) (head : Head) (first rest : List ℕ) → IsHeader head first
+    → Tells fault (body_flaw head.dims head.threshold head.merges rest) → Tells fault (tree_flaw (first ++ rest))
+possible_after fault head first rest is tells =
+    let front : header (first ++ rest) ≡ first = take_at first rest header_length is.long in
+    let after : body (first ++ rest) ≡ rest = drop_at first rest header_length is.long in
+    let says : SaysHead head (header (first ++ rest)) = subst (SaysHead head) (sym front) is.says in
+    ap (option_map fault_of)
+    (ap (λ (o : Option TreeFlaw). option_or o (body_flaw (header_axes (header (first ++ rest))) (header_threshold (header (first ++ rest))) (header_merges (header (first ++ rest))) (body (first ++ rest)))) (ap header_flaw front ∙ is.sound)
+    ∙ ((λ i. body_flaw (sym says.axes i) (sym says.threshold i) (sym says.merges i) (body (first ++ rest)))
+    ∙ ap (body_flaw head.dims head.threshold head.merges) after)) ∙ tells
 
 -- what was read has a flaw, or there was no memory for its merges
 pub finds_bad_tree : (fault : TreeFault) (head : Head) (most : ℕ) (bytes : List ℕ) (old now new : DeskState) → most ≡ record_length * head.merges + 1
@@ -172,7 +171,7 @@ finds_bad_tree fault head most bytes old now new e h read tells =
     let rest : IfSome (option_map (drop header_length) old.input) (λ rest. bytes ≡ take most rest) =
     rest_of old now (λ rest. bytes ≡ take most rest) h.after read.says in
     record {
-      possible = possible_after fault head bytes h.header_is (tells (λ same. cc));
+      possible = joined_bytes (possible_after fault head) h.header_is record { bytes = bytes; fit = read.fit; holds = tells (λ same. cc) };
       flaw = if_some old.input _ _ (λ input same. ap (option_map fault_of) same ∙ tells (λ same. cc))
           (flaw_after old.input head most bytes e h.sound h.says rest);
       after = read.after ∙ (ap (taken most) h.after ∙ (taken-taken header_length most old

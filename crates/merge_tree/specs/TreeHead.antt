@@ -2,6 +2,7 @@
 use Rattle.std.specs.Prelude.{◌≡◌, ℕ, List, length, None, IfSome}
 use Rattle.agglo_model.specs.VolumeFile.{header_length, header_axes}
 use Rattle.agglo_model.specs.TreeFile.{header, header_flaw, header_threshold, header_merges}
+use Rattle.seg_io.specs.Bytes.{SomeBytes}
 use Rattle.seg_io.specs.Desk.{DeskState, taken, FailsAfterReading}
 use Rattle.merge_tree.specs.declared.tree_fault.TreeFault.{TreeFault}
 use Rattle.merge_tree.specs.declared.tree_fault.TreeFault.TheVariants.{Read}
@@ -22,7 +23,7 @@ pub record IsHeader (head : Head) (bytes : List ℕ) : Type 0 where
 
 -- The input left begins with a sound header that says this, which there is. It was taken off.
 pub record ReadsHead (head : Head) (old new : DeskState) : Type 0 where
-  pub header_is : (bytes : List ℕ) × IsHeader head bytes
+  pub header_is : SomeBytes (IsHeader head)
   pub sound : IfSome old.input (λ bytes. header_flaw (header bytes) ≡ None)
   pub says : IfSome old.input (λ bytes. SaysHead head (header bytes))
   pub after : new ≡ taken header_length old
@@ -30,7 +31,7 @@ pub record ReadsHead (head : Head) (old new : DeskState) : Type 0 where
 -- The first 32 bytes, or as many as there are, have the flaw that this fault tells of, and were taken off. It is a
 -- flaw that some header has.
 pub record FindsBadHead (fault : TreeFault) (old new : DeskState) : Type 0 where
-  pub possible : (bytes : List ℕ) × Tells fault (header_flaw (header bytes))
+  pub possible : SomeBytes (λ bytes. Tells fault (header_flaw (header bytes)))
   pub flaw : IfSome old.input (λ bytes. Tells fault (header_flaw (header bytes)))
   pub after : new ≡ taken header_length old
 

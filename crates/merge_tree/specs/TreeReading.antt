@@ -1,9 +1,10 @@
 -- What the calls that read a tree file take off a desk's input, and what they answer. A desk may tell its
 -- input or not; what is said of the bytes is said where it does.
-use Rattle.std.specs.Prelude.{◌≡◌, ℕ, ◌+◌, ◌*◌, ◌≤◌, List, ◌++◌, length, take, min, Option, Some, None, IfSome}
+use Rattle.std.specs.Prelude.{◌≡◌, ℕ, ◌+◌, ◌*◌, ◌<◌, ◌≤◌, List, ◌++◌, length, take, min, All, Option, Some, None, IfSome}
 use Rattle.std.specs.Option.{option_map}
 use Rattle.agglo_model.specs.TreeFile.{MergeTree, TreeFlaw, header, header_flaw, header_merges, record_length, tree_flaw, tree_in}
 use Rattle.agglo_model.specs.VolumeFile.{header_length}
+use Rattle.seg_io.specs.Bytes.{SomeBytes}
 use Rattle.seg_io.specs.Desk.{DeskState, taken, emptied, TakesSome, FailsAfterReading}
 use Rattle.merge_tree.specs.declared.tree_fault.TreeFault.{TreeFault}
 use Rattle.merge_tree.specs.declared.tree_fault.TreeFault.TheVariants.{Read, Memory}
@@ -38,7 +39,7 @@ read_count (Some bytes) = judged_length bytes
 -- The input left has a flaw that this fault tells of, and that some file has. So many bytes were taken off, as far as
 -- they are there.
 pub record FindsBadTree (fault : TreeFault) (old new : DeskState) : Type 0 where
-  pub possible : (bytes : List ℕ) × Tells fault (tree_flaw bytes)
+  pub possible : SomeBytes (λ bytes. Tells fault (tree_flaw bytes))
   pub flaw : IfSome old.input (λ bytes. Tells fault (tree_flaw bytes))
   pub after : new ≡ taken (read_count old.input) old
 
@@ -48,9 +49,10 @@ FailsToReadTree Read old new = FailsAfterReading judged_length old new
 FailsToReadTree Memory old new = TakesSome old new
 FailsToReadTree fault old new = FindsBadTree fault old new
 
--- The first bytes of the input, as many as there are up to a limit, were read, and taken off.
+-- The first bytes of the input, as many as there are up to a limit, were read, and taken off. Each is below 256.
 pub record ReadsUpTo (most : ℕ) (bytes : List ℕ) (old new : DeskState) : Type 0 where
   pub says : IfSome old.input (λ input. bytes ≡ take most input)
+  pub fit : All (λ byte. byte < 256) bytes
   pub after : new ≡ taken most old
 
 -- up to a limit, bytes could not be read
@@ -65,4 +67,5 @@ pub record AppendsPiece (got count : ℕ) (before after : List ℕ) (old new : D
   pub counted : length after ≡ length before + got
   pub front : IfSome old.input (λ input. after ≡ before ++ take got input)
   pub all : IfSome old.input (λ input. got ≡ min count (length input))
+  pub fit : All (λ byte. byte < 256) before → All (λ byte. byte < 256) after
   pub moved : new ≡ taken got old

@@ -1,8 +1,10 @@
 -- A buffer that is being filled, piece by piece.
 use Rattle.std.proofs.Common.{◌≡◌, ℕ, ◌+◌, ◌-◌, ◌<◌, ◌≤◌, List, [], ◌++◌, length, take, drop, min, Option, Some, None, IfSome, refl, sym, ap, ◌∙◌, subst, arith, length-append, length-take, length-drop}
+use Rattle.std.specs.Prelude.{All}
 use Rattle.std.specs.Option.{option_map}
 use Rattle.std.proofs.Math.Seq.{take-add, take-append-add}
 use Rattle.std.proofs.lemmas.List.{take-append-le, length-take-le}
+use Rattle.std.proofs.lemmas.List.Elements.{All-nil, All-take}
 use borrow.Rule.Slice.PartMut.{put_mid, post_of}
 use Rattle.seg_io.specs.Desk.{DeskState, taken, Reads, Fills, FailsToRead, FailsAfterReading}
 use Rattle.agglo_model.specs.Count.{Rose}
@@ -13,6 +15,7 @@ pub record HasFilled (n : ℕ) (into : List ℕ) (old now : DeskState) : Type 0 
   pub room : n ≤ length into
   pub there : IfSome old.input (λ bytes. n ≤ length bytes)
   pub front : IfSome old.input (λ bytes. take n into ≡ take n bytes)
+  pub fit : All (λ byte. byte < 256) (take n into)
   pub after : now ≡ taken n old
 
 pub nothing_filled : (into : List ℕ) (s : DeskState) → HasFilled 0 into s s
@@ -20,6 +23,7 @@ nothing_filled into s = record {
   room = omega arith;
   there = for_some s.input (λ bytes. 0 ≤ length bytes) (λ bytes. omega arith);
   front = for_some s.input (λ bytes. take 0 into ≡ take 0 bytes) (λ bytes. refl);
+  fit = All-nil (λ byte. byte < 256);
   after = sym (taken-none s);
 }
 
@@ -45,9 +49,9 @@ front_more (Some bytes) n k into part post r s h t =
 -- a read fills some more
 pub filled_more : (n k : ℕ) (into part : List ℕ) (old now new : DeskState) → HasFilled n into old now
     → Reads k (take (length into - n) (drop n into)) part now new
-    → length part ≡ length (take (length into - n) (drop n into))
+    → length part ≡ length (take (length into - n) (drop n into)) → All (λ byte. byte < 256) (put_mid n (length into - n) into part)
     → HasFilled (n + k) (put_mid n (length into - n) into part) old new
-filled_more n k into part old now new h r e =
+filled_more n k into part old now new h r e fit =
     let same : now.input ≡ option_map (drop n) old.input = ap (λ (s : DeskState). s.input) h.after in
     record {
       room = omega (arith, length-append (take n into) (part ++ post_of n (length into - n) into), length-append part (post_of n (length into - n) into), length-take-le n into h.room, h.room, r.room, length-take (length into - n) (drop n into), length-drop n into);
@@ -55,6 +59,7 @@ filled_more n k into part old now new h r e =
       front = front_more old.input n k into part (post_of n (length into - n) into) h.room
           (omega (arith, h.room, r.room, length-take (length into - n) (drop n into), length-drop n into)) h.front
           (subst (λ (o : Option (List ℕ)). IfSome o (λ bytes. take k part ≡ take k bytes)) same r.front);
+      fit = All-take (λ byte. byte < 256) (n + k) _ fit;
       after = r.after ∙ (ap (taken k) h.after ∙ taken-taken n k old);
     }
 
@@ -76,24 +81,26 @@ filled_whole n buffer into old now e full h = record {
   room = omega (arith, h.room);
   front = h.front;
   all = all_full old.input n (length buffer) (omega (arith, h.room)) h.there;
+  fit = h.fit;
   after = h.after;
 }
 
 -- the input came to its end
 pub filled_to_end : (n k : ℕ) (buffer into part : List ℕ) (old now new : DeskState) → k ≡ 0 → length into ≡ length buffer
     → HasFilled n into old now → Reads k (take (length into - n) (drop n into)) part now new
-    → length part ≡ length (take (length into - n) (drop n into))
+    → length part ≡ length (take (length into - n) (drop n into)) → All (λ byte. byte < 256) (put_mid n (length into - n) into part)
     → Fills n buffer (put_mid n (length into - n) into part) old new
-filled_to_end n k buffer into part old now new none e h r p =
+filled_to_end n k buffer into part old now new none e h r p fit =
     let same : now.input ≡ option_map (drop n) old.input = ap (λ (s : DeskState). s.input) h.after in
     let z : n + k ≡ n = omega arith in
     let more : HasFilled n (put_mid n (length into - n) into part) old new =
-    subst (λ (m : ℕ). HasFilled m (put_mid n (length into - n) into part) old new) z (filled_more n k into part old now new h r p) in
+    subst (λ (m : ℕ). HasFilled m (put_mid n (length into - n) into part) old new) z (filled_more n k into part old now new h r p fit) in
     record {
       room = omega (arith, h.room);
       front = more.front;
       all = all_ended old.input n k (length buffer) none (omega (arith, h.room)) h.there
           (subst (λ (o : Option (List ℕ)). IfSome o (λ bytes. k ≡ 0 → bytes ≡ [])) same r.none_left);
+      fit = more.fit;
       after = more.after;
     }
 

@@ -1,5 +1,5 @@
 -- The list of opened ports has no port twice, so it has room for one that is not in it.
-use Rattle.std.proofs.Common.{◌≡◌, ℕ, ◌+◌, ◌<◌, ◌≤◌, ◌⊎◌, List, [], ◌∷◌, ◌++◌, length, inl, inr, refl, sym, ap, arith, length-append}
+use Rattle.std.proofs.Common.{◌≡◌, ℕ, ◌+◌, ◌<◌, List, [], ◌∷◌, ◌++◌, length, inl, inr, refl, arith, length-append}
 use Rattle.seg_io.specs.declared.port.Port.{Port}
 use Rattle.seg_io.specs.declared.port.Port.TheVariants.{Labels, Tree, Volume, Note, Trouble}
 use Rattle.seg_io.specs.Desk.{Opened, IsListed}

@@ -1,5 +1,5 @@
 -- What a desk means: its state, and what each call does to that state.
-use Rattle.std.specs.Prelude.{◌≡◌, ℕ, ◌<◌, ◌≤◌, Bool, true, false, List, [], ◌∷◌, ◌++◌, length, take, drop, min, find, ◌⊎◌, Option, IsSome, IfSome, MatchOption}
+use Rattle.std.specs.Prelude.{◌≡◌, ℕ, ◌<◌, ◌≤◌, Bool, true, false, List, [], ◌∷◌, ◌++◌, length, take, drop, min, find, All, ◌⊎◌, Option, IsSome, IfSome, MatchOption}
 use Rattle.std.specs.Option.{option_map}
 use Rattle.std.specs.Str.{bytes_eq}
 use Rattle.agglo_model.specs.Count.{Rose}
@@ -129,11 +129,12 @@ pub record Reads (k : ℕ) (buffer : List ℕ) (filled : List ℕ) (old new : De
   pub none_left : IfSome old.input (λ bytes. k ≡ 0 → bytes ≡ [])
   pub after : new ≡ taken k old
 
--- a buffer was filled as far as the input went
+-- a buffer was filled with bytes, as far as the input went
 pub record Fills (k : ℕ) (buffer : List ℕ) (filled : List ℕ) (old new : DeskState) : Type 0 where
   pub room : k ≤ length buffer
   pub front : IfSome old.input (λ bytes. take k filled ≡ take k bytes)
   pub all : IfSome old.input (λ bytes. k ≡ min (length buffer) (length bytes))
+  pub fit : All (λ byte. byte < 256) (take k filled)
   pub after : new ≡ taken k old
 
 -- a read failed, and took nothing

@@ -1,5 +1,5 @@
 -- What a desk in memory means: all that its calls go by, and the state of a desk that it is.
-use Rattle.std.specs.Prelude.{◌≡◌, ℕ, slice_index_or, ◌+◌, ◌-◌, ◌^◌, ◌==◌, ◌≤◌, ◌<◌, ◌⊎◌, true, Bool, false, if◌then◌else◌, MatchOption, List, [], ◌∷◌, ◌++◌, take, drop, length, min, Option, Some, None}
+use Rattle.std.specs.Prelude.{◌≡◌, ℕ, slice_index_or, ◌+◌, ◌-◌, ◌^◌, ◌==◌, ◌≤◌, ◌<◌, ◌⊎◌, true, Bool, false, if◌then◌else◌, List, [], ◌∷◌, ◌++◌, take, drop, length, min, Some, None}
 use Rattle.std.specs.Option.{unwrap_or, is_some}
 use Rattle.std.specs.List.{list_any}
 use Rattle.seg_io.specs.declared.port.Port.{Port}

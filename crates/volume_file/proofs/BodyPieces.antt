@@ -8,6 +8,7 @@ use Rattle.agglo_model.specs.Axes.{Axes, edge_count}
 use Rattle.agglo_model.specs.Grid.{Grid}
 use Rattle.agglo_model.specs.VolumeFile.{body_flaw, Truncated as FlawTruncated, Trailing as FlawTrailing}
 use Rattle.seg_io.specs.Desk.{DeskState, taken, Fills, FailsAfterReading}
+use Rattle.seg_io.proofs.Bytes.{some_zeros}
 use Rattle.seg_io.proofs.States.{for_some, taken-none, taken-taken}
 use Rattle.volume_file.specs.declared.fault.VolumeFault.{VolumeFault}
 use Rattle.volume_file.specs.declared.fault.VolumeFault.TheVariants.{ShortHeader, Magic, Channels, Reserved, AxisZero, AxisLarge, TooMany, Truncated, Trailing, Read, Memory}
@@ -212,7 +213,7 @@ no_body n a (Truncated got) old new e f =
     let short : IfSome old.input (λ input. length input < edge_count a) =
     subst (λ (k : ℕ). IfSome old.input (λ input. length input < k)) e f.short in
     record {
-      possible = (replicate got 0, short_body a got (subst (λ (k : ℕ). got < k) e f.few));
+      possible = some_zeros got (short_body a got (subst (λ (k : ℕ). got < k) e f.few));
       flaw = truncated_flaw old.input a got short f.all;
       after = f.after
           ∙ (taken-all old n (weaker old.input n n (omega arith) f.short)
@@ -251,7 +252,7 @@ pub trailing : (n : ℕ) (a : Axes) (bytes : List ℕ) (more : Bool) (old now ne
 trailing n a bytes more old now new e found h m =
     let moved : now ≡ taken (edge_count a) old = h.after ∙ ap (λ (k : ℕ). taken k old) e in
     record {
-      possible = (replicate (edge_count a + 1) 0, long_body a);
+      possible = some_zeros (edge_count a + 1) (long_body a);
       flaw = trailing_flaw old.input a more found (subst (λ (k : ℕ). IfSome old.input (λ input. k ≤ length input)) e h.there)
           (left_of (edge_count a) old now (λ input. more ≡ nat_lt 0 (length input)) moved m.whether);
       after = m.after ∙ (ap (taken 1) moved ∙ taken-taken (edge_count a) 1 old);

@@ -140,14 +140,15 @@ reads_head k buffer filled axes old new room fills sound says =
     let all : IfSome old.input (λ bytes. k ≡ min 32 (length bytes)) =
     subst (λ (n : ℕ). IfSome old.input (λ bytes. k ≡ min n (length bytes))) room fills.all in
     record {
-      header = (
-        take k filled,
-        record {
+      header = record {
+        bytes = take k filled;
+        fit = fills.fit;
+        holds = record {
           long = omega (arith, fills.room, room, length-take k filled, sound_is_long (take k filled) sound);
           sound = sound;
           says = says;
-        },
-      );
+        };
+      };
       sound = front_of old.input k filled (λ _ bytes. header_flaw bytes ≡ None) fills.front all
           (λ bytes e. sym (header_flaw-front bytes) ∙ (ap header_flaw (sym e) ∙ sound));
       says = front_of old.input k filled (λ _ bytes. axes ≡ header_axes bytes) fills.front all
@@ -163,7 +164,7 @@ finds_bad_head k buffer filled fault old new room fills flaw =
     let all : IfSome old.input (λ bytes. k ≡ min 32 (length bytes)) =
     subst (λ (n : ℕ). IfSome old.input (λ bytes. k ≡ min n (length bytes))) room fills.all in
     bad_head (header_flaw (take k filled)) fault old new (header_flaw-head (take k filled)) flaw record {
-      possible = (take k filled, flaw);
+      possible = record { bytes = take k filled; fit = fills.fit; holds = flaw };
       flaw = front_of old.input k filled (λ _ bytes. option_map fault_of (header_flaw bytes) ≡ Some fault) fills.front all
           (λ bytes e. ap (option_map fault_of) (sym (header_flaw-front bytes) ∙ ap header_flaw (sym e)) ∙ flaw);
       after = fills.after ∙ taken-min old 32 k all;

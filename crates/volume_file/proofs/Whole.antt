@@ -6,6 +6,7 @@ use Rattle.agglo_model.specs.Axes.{Axes, edge_count}
 use Rattle.agglo_model.specs.Grid.{Grid}
 use Rattle.agglo_model.specs.VolumeFile.{VolumeFlaw, header_flaw, header_axes, body_flaw, body, first_of_two, volume_flaw, volume_in}
 use Rattle.seg_io.specs.Desk.{DeskState, taken}
+use Rattle.seg_io.proofs.Bytes.{same_bytes, joined_bytes}
 use Rattle.seg_io.proofs.States.{for_some, taken-taken}
 use Rattle.volume_file.specs.declared.fault.VolumeFault.{VolumeFault}
 use Rattle.volume_file.specs.declared.fault.VolumeFault.TheVariants.{ShortHeader, Magic, Channels, Reserved, AxisZero, AxisLarge, TooMany, Truncated, Trailing, Read, Memory}
@@ -38,7 +39,7 @@ judged_head (Some bytes) fault flaw = sym (told_head (header_flaw bytes) (32 + (
 
 bad_volume : (fault : VolumeFault) (old new : DeskState) → FindsBadHead fault old new → FindsBadVolume fault old new
 bad_volume fault old new f = record {
-  possible = (f.possible.0, head_first (header_flaw f.possible.0) (body_flaw (header_axes f.possible.0) (body f.possible.0)) fault f.possible.1);
+  possible = same_bytes (λ bytes. head_first (header_flaw bytes) (body_flaw (header_axes bytes) (body bytes)) fault) f.possible;
   flaw = head_flaw old.input fault f.flaw;
   count = 32;
   judged = judged_head old.input fault f.flaw;
@@ -116,18 +117,17 @@ whole_of a head rest is =
       (is.says ∙ (ap header_axes (sym front) ∙ header_axes-front (head ++ rest)), drop_at head rest 32 is.long),
     )
 
-possible_after : (a : Axes) (fault : VolumeFault) → ((bytes : List ℕ) × IsHeader a bytes)
-    → ((bytes : List ℕ) × Tells fault (body_flaw a bytes)) → (bytes : List ℕ) × Tells fault (volume_flaw bytes)
-possible_after a fault head rest =
-    let whole = whole_of a head.0 rest.0 head.1 in (
-      head.0 ++ rest.0,
-      ap (option_map fault_of) (sound_head (head.0 ++ rest.0) a whole.0 whole.1.0 ∙ ap (body_flaw a) whole.1.1) ∙ rest.1,
-    )
+-- and its flaw is that of the body
+possible_after : (a : Axes) (fault : VolumeFault) (head rest : List ℕ) → IsHeader a head → Tells fault (body_flaw a rest)
+    → Tells fault (volume_flaw (head ++ rest))
+possible_after a fault head rest is tells =
+    let whole = whole_of a head rest is in
+    ap (option_map fault_of) (sound_head (head ++ rest) a whole.0 whole.1.0 ∙ ap (body_flaw a) whole.1.1) ∙ tells
 
 bad_after : (a : Axes) (fault : VolumeFault) (old now new : DeskState) → ReadsHead a old now → FindsBadBody a fault now new
     → FindsBadVolume fault old new
 bad_after a fault old now new h f = record {
-  possible = possible_after a fault h.header f.possible;
+  possible = joined_bytes (possible_after a fault) h.header f.possible;
   flaw = flaw_after old.input a (Some fault) h.sound h.says
       (body_left old now (λ bytes. option_map fault_of (body_flaw a bytes) ≡ Some fault) h.after f.flaw);
   count = 32 + (edge_count a + 1);

@@ -5,6 +5,7 @@ use Rattle.std.specs.Option.{option_map}
 use Rattle.agglo_model.specs.Axes.{Axes, edge_count}
 use Rattle.agglo_model.specs.Grid.{Grid}
 use Rattle.agglo_model.specs.VolumeFile.{VolumeFlaw, header_length, header_axes, header_flaw, body_flaw, volume_flaw, volume_in}
+use Rattle.seg_io.specs.Bytes.{SomeBytes}
 use Rattle.seg_io.specs.Desk.{DeskState, taken, emptied, TakesSome, FailsAfterReading}
 use Rattle.volume_file.specs.declared.fault.VolumeFault.{VolumeFault}
 use Rattle.volume_file.specs.declared.fault.VolumeFault.TheVariants.{Truncated, Trailing, Read, Memory}
@@ -22,7 +23,7 @@ Tells fault flaw = option_map fault_of flaw ≡ Some fault
 
 -- The input left begins with a sound header for these axes, which there is. It was taken off.
 pub record ReadsHead (axes : Axes) (old new : DeskState) : Type 0 where
-  pub header : (bytes : List ℕ) × IsHeader axes bytes
+  pub header : SomeBytes (IsHeader axes)
   pub sound : IfSome old.input (λ bytes. header_flaw bytes ≡ None)
   pub says : IfSome old.input (λ bytes. axes ≡ header_axes bytes)
   pub after : new ≡ taken header_length old
@@ -30,7 +31,7 @@ pub record ReadsHead (axes : Axes) (old new : DeskState) : Type 0 where
 -- The first 32 bytes, or as many as there are, have the flaw that this fault tells of, and were taken off. It is a
 -- flaw that some header has.
 pub record FindsBadHead (fault : VolumeFault) (old new : DeskState) : Type 0 where
-  pub possible : (bytes : List ℕ) × Tells fault (header_flaw bytes)
+  pub possible : SomeBytes (λ bytes. Tells fault (header_flaw bytes))
   pub flaw : IfSome old.input (λ bytes. Tells fault (header_flaw bytes))
   pub after : new ≡ taken header_length old
 
@@ -52,7 +53,7 @@ pub record ReadsBody (axes : Axes) (volume : Grid) (old new : DeskState) : Type 
 -- The input left is too short or too long for a body for these axes. The body, or what there is of it,
 -- was taken off, and one byte more where there is one. It is a flaw that some body has.
 pub record FindsBadBody (axes : Axes) (fault : VolumeFault) (old new : DeskState) : Type 0 where
-  pub possible : (bytes : List ℕ) × Tells fault (body_flaw axes bytes)
+  pub possible : SomeBytes (λ bytes. Tells fault (body_flaw axes bytes))
   pub flaw : IfSome old.input (λ bytes. Tells fault (body_flaw axes bytes))
   pub after : new ≡ taken (edge_count axes + 1) old
 
@@ -76,7 +77,7 @@ judged_length bytes = if is_some (header_flaw bytes) then header_length else (he
 
 -- The input left has a flaw that this fault tells of, and that some file has. What was read of it was taken off.
 pub record FindsBadVolume (fault : VolumeFault) (old new : DeskState) : Type 0 where
-  pub possible : (bytes : List ℕ) × Tells fault (volume_flaw bytes)
+  pub possible : SomeBytes (λ bytes. Tells fault (volume_flaw bytes))
   pub flaw : IfSome old.input (λ bytes. Tells fault (volume_flaw bytes))
   pub count : ℕ
   pub judged : IfSome old.input (λ bytes. count ≡ judged_length bytes)

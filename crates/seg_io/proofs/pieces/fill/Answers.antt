@@ -1,6 +1,7 @@
-use Rattle.std.proofs.Common.{ap, ◌∙◌}
+use Rattle.std.proofs.Common.{ap, ◌∙◌, arith}
 use Rattle.std.proofs.lemmas.Result.{err_from_is_err_and}
 use Rattle.seg_io.specs.Desk.{DeskState}
+use Rattle.seg_io.proofs.Bytes.{bytes_fit}
 use Rattle.seg_io.proofs.Filling.{nothing_filled, filled_more, filled_whole, filled_to_end, fails_after}
 use Rattle.seg_io.proofs.pieces.fill.Goals as goal
 
@@ -17,7 +18,7 @@ returns-in_err-got g c =
 
 pub loop-filled-preserved : goal.loop-filled-preserved
 loop-filled-preserved g c =
-    filled_more _ _ _ _ _ _ _ c.loop-filled.invariant c.in_ok-got.ensures c.read.auto.into
+    filled_more _ _ _ _ _ _ _ c.loop-filled.invariant c.in_ok-got.ensures c.read.auto.into (bytes_fit _ (λ k. let fits = c.type_inv.into k in omega arith))
 
 pub returns-after-loop-filled : goal.returns-after-loop-filled
 returns-after-loop-filled g c =
@@ -25,4 +26,4 @@ returns-after-loop-filled g c =
 
 pub returns-then-got-eq0 : goal.returns-then-got-eq0
 returns-then-got-eq0 g c =
-    filled_to_end _ _ _ _ _ _ _ _ c.if-got-eq0.true c.loop-filled.auto.into c.loop-filled.invariant c.in_ok-got.ensures c.read.auto.into
+    filled_to_end _ _ _ _ _ _ _ _ c.if-got-eq0.true c.loop-filled.auto.into c.loop-filled.invariant c.in_ok-got.ensures c.read.auto.into (bytes_fit _ (λ k. let fits = c.type_inv.into k in omega arith))
