@@ -24,12 +24,14 @@ impl Sequence {
     pub fn after(start: u32) -> Sequence
         ensures { StandsAt start 0 result }
     {
-        let mut high = [0; LANES];
-        let mut rise = [0; LANES];
-        let last = next_highs(start, &mut high);
-        next_highs(last, &mut rise);
-        lower(&mut rise, &high);
-        Sequence { high, rise }
+        let mut sequence = Sequence {
+            high: [0; LANES],
+            rise: [0; LANES],
+        };
+        let last = next_highs(start, &mut sequence.high);
+        next_highs(last, &mut sequence.rise);
+        lower(&mut sequence.rise, &sequence.high);
+        sequence
     }
 
     /// Fills the bytes with the highest eight bits of the next numbers.
