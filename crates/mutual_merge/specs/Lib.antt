@@ -7,3 +7,4 @@ pub mod Trimmed
 pub mod Samples
 pub mod Parts
 pub mod Rounds
+pub mod Slots

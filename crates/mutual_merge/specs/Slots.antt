@@ -1,0 +1,132 @@
+-- A region graph while merges are made in it. Each region has a slot, which is closed when its region is taken into
+-- another one; links join slots, in either order. A link from a slot to itself is gone, and says nothing.
+use Rattle.std.specs.Prelude.{◌≡◌, ◌≢◌, ℕ, ◌<◌, ◌≤◌, ◌⊎◌, ◌↔◌, ◌==◌, Bool, true, false, cond, List, All, Contains, Option, Some, None, length, sum_by, slice_index_or, slice_set, ◌/◌, bit_and, bit_or, min, max}
+use Rattle.agglo_model.specs.PairOrder.{Contact, Threshold, Before, Reaches, most_edges}
+use Rattle.agglo_model.specs.Greedy.{Merge}
+use Rattle.agglo_model.specs.RegionGraph.{Region, RegionGraph, IsGraph, contact_in}
+use Rattle.mutual_merge.specs.declared.links.Link.{Link}
+use Rattle.mutual_merge.specs.Linked.{IsAtPlace, region_at, name_at, faces_at, edges_by}
+use Rattle.mutual_merge.specs.Merged.{SameContactsBy}
+
+-- the slot is one of the list, and has a region
+abbrev pub IsOpen : List Bool → ℕ → Type 0
+IsOpen closed k = slice_index_or closed k true ≡ false
+
+-- the link of an index; past the end, one that is gone
+abbrev pub nth_link : List Link → ℕ → Link
+nth_link links i = slice_index_or links i (record { a = 0; b = 0; contact = record { sum = 0; count = 1; tie = 0 } })
+
+-- the link joins two slots
+abbrev pub IsLive : Link → Type 0
+IsLive l = l.a ≢ l.b
+
+-- it joins two slots, of which one is k
+pub record IsLiveAt (k : ℕ) (l : Link) : Type 0 where
+  pub live : IsLive l
+  pub at_slot : IsAtPlace k l
+
+-- it joins the slots j and k
+abbrev pub Joins : ℕ → ℕ → Link → Type 0
+Joins j k l = ((l.a ≡ j) × (l.b ≡ k)) ⊎ ((l.a ≡ k) × (l.b ≡ j))
+
+-- how many edges of the grid the links that are not gone have together
+abbrev pub live_edges : List Link → ℕ
+live_edges links = sum_by (λ l. cond (l.a == l.b) 0 l.contact.count) links
+
+-- the ends are two of so many slots, and the contact has some edge of the grid
+pub record IsSlotLink (n : ℕ) (l : Link) : Type 0 where
+  pub a_inside : l.a < n
+  pub b_inside : l.b < n
+  pub touching : 0 < l.contact.count
+
+-- links between so many slots, which have no more edges of the grid than there are
+pub record AreSlotLinks (n : ℕ) (links : List Link) : Type 0 where
+  pub each : All (IsSlotLink n) links
+  pub within : live_edges links ≤ most_edges
+
+-- Slots and links that have no graph yet: open slots have different names, and live links join open slots.
+pub record AreSlots (regions : List Region) (closed : List Bool) (links : List Link) : Type 0 where
+  pub one_each : length closed ≡ length regions
+  pub apart : (j k : ℕ) → IsOpen closed j → IsOpen closed k → name_at regions j ≡ name_at regions k → j ≡ k
+  pub links_are : AreSlotLinks (length regions) links
+  pub open_ends : (l : Link) → Contains links l → IsLive l → IsOpen closed l.a × IsOpen closed l.b
+
+-- the region of an open slot
+abbrev pub HasOpen : List Region → List Bool → Region → Type 0
+HasOpen regions closed r = (k : ℕ) × (k < length regions) × IsOpen closed k × (region_at regions k ≡ r)
+
+-- The slots and links are this graph: its regions are those of open slots, and any two names have the same contact.
+pub record Stands (graph : RegionGraph) (regions : List Region) (closed : List Bool) (links : List Link) : Type 0 where
+  pub graph_is : IsGraph graph
+  pub slots : AreSlots regions closed links
+  pub regions_are : (r : Region) → Contains graph.regions r ↔ HasOpen regions closed r
+  pub contacts : (past x y : ℕ) → x ≢ y
+      → contact_in past graph.edges x y ≡ contact_in past (edges_by (name_at regions) links) x y
+
+-- Links of which some were added up: each that is live joins the slots that it joined before.
+pub record AreGathered (old new : List Link) : Type 0 where
+  pub one_each : length new ≡ length old
+  pub inside : (n : ℕ) → All (IsSlotLink n) old → All (IsSlotLink n) new
+  pub same_ends : (i : ℕ) → i < length old → IsLive (nth_link new i)
+      → ((nth_link new i).a ≡ (nth_link old i).a) × ((nth_link new i).b ≡ (nth_link old i).b)
+  pub fewer : live_edges new ≤ live_edges old
+  pub contacts : (name : ℕ → ℕ) → SameContactsBy name new name old
+
+-- The link of index i joins a reciprocal pair: the regions of both slots are free, the contact reaches the threshold,
+-- no live link at either slot comes before it, and no other joins the two.
+pub record IsReciprocalAt (t : Threshold) (faces : ℕ) (regions : List Region) (links : List Link) (i : ℕ) : Type 0 where
+  pub there : i < length links
+  pub live : IsLive (nth_link links i)
+  pub a_free : bit_and (faces_at regions (nth_link links i).a) faces ≡ 0
+  pub b_free : bit_and (faces_at regions (nth_link links i).b) faces ≡ 0
+  pub reaches : Reaches t (nth_link links i).contact
+  pub first : (j : ℕ) → j < length links
+      → IsLiveAt (nth_link links i).a (nth_link links j) ⊎ IsLiveAt (nth_link links i).b (nth_link links j)
+      → ¬ (Before (nth_link links j).contact (nth_link links i).contact)
+  pub single : (j : ℕ) → j < length links → Joins (nth_link links i).a (nth_link links i).b (nth_link links j) → j ≡ i
+
+-- a slot after the region of one is taken into that of another, and a link with such ends
+abbrev pub slot_after : ℕ → ℕ → ℕ → ℕ
+slot_after from to k = cond (k == from) to k
+
+abbrev pub link_after : ℕ → ℕ → Link → Link
+link_after from to l = record l { a = slot_after from to l.a; b = slot_after from to l.b }
+
+-- all live links that ended at one slot end at another; what is gone stays as it was
+pub record HaveMovedEnds (from to : ℕ) (old new : List Link) : Type 0 where
+  pub one_each : length new ≡ length old
+  pub live : (i : ℕ) → i < length old → IsLive (nth_link old i) → nth_link new i ≡ link_after from to (nth_link old i)
+  pub gone : (i : ℕ) → i < length old → ¬ IsLive (nth_link old i) → nth_link new i ≡ nth_link old i
+
+-- the region that two make: the smaller name, and the faces of both
+abbrev pub both_regions : Region → Region → Region
+both_regions r s = record { name = min r.name s.name; faces = bit_or r.faces s.faces }
+
+-- the merge of the regions of two slots
+abbrev pub merge_at : List Region → Link → Merge
+merge_at regions l = record {
+  survivor = min (name_at regions l.a) (name_at regions l.b);
+  absorbed = max (name_at regions l.a) (name_at regions l.b);
+  contact = l.contact;
+}
+
+-- The region of the slot `from` was taken into that of `to`. Its slot is closed, and its links end at the other.
+pub record IsTakenOver (from to : ℕ) (regions : List Region) (closed : List Bool) (links : List Link) (new_regions : List Region) (new_closed : List Bool) (new_links : List Link) : Type 0 where
+  pub regions_are : new_regions ≡ slice_set regions to (both_regions (region_at regions to) (region_at regions from))
+  pub closed_are : new_closed ≡ slice_set closed from true
+  pub links_are : HaveMovedEnds from to links new_links
+
+-- An item for each end of each link: 2 * i for a and 2 * i + 1 for b. These are items of all live links at slot k.
+abbrev pub Covers : List ℕ → List Link → ℕ → Type 0
+Covers items links k = (i : ℕ) → i < length links → IsLiveAt k (nth_link links i) → (j : ℕ) × Contains items j × (j / 2 ≡ i)
+
+-- items of that many links
+abbrev pub AreItems : ℕ → List ℕ → Type 0
+AreItems count items = All (λ j. j / 2 < count) items
+
+-- No live link at slot k among those of the items; or the index of one that none of them comes before.
+abbrev pub IsFirstOf : List Link → List ℕ → ℕ → Option ℕ → Type 0
+IsFirstOf links items k None = (j : ℕ) → Contains items j → ¬ IsLiveAt k (nth_link links (j / 2))
+IsFirstOf links items k (Some i) = (i < length links) × IsLiveAt k (nth_link links i)
+    × ((j : ℕ) → Contains items j → IsLiveAt k (nth_link links (j / 2))
+    → ¬ (Before (nth_link links (j / 2)).contact (nth_link links i).contact))
