@@ -4,7 +4,7 @@ use std::alloc::AllocError;
 use thiserror::Error;
 
 /// What the words of the command line ask for.
-#[derive(Debug, Drop)]
+#[derive(Drop)]
 pub enum Job {
     /// Write the label file of the basins of a volume. Edges below the affinity `low` are not followed.
     Basins {
@@ -45,7 +45,7 @@ pub enum Job {
 }
 
 /// Why words were not taken for a job.
-#[derive(Clone, Copy, Debug, PartialEq, Eq, Error)]
+#[derive(Clone, Copy, Debug, Error)]
 pub enum WordsFault {
     /// The words are no settings of any command.
     #[error("words not understood")]

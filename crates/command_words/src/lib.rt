@@ -10,8 +10,6 @@ pub mod laws;
 mod options;
 mod parser;
 mod settings;
-#[cfg(test)]
-mod tests;
 mod values;
 mod words;
 

@@ -8,8 +8,6 @@
 mod line;
 mod refusal;
 mod telling;
-#[cfg(test)]
-mod tests;
 
 pub use refusal::Refusal;
 pub use telling::tell;

@@ -1,5 +1,0 @@
-use Rattle.agglo_cli.proofs.Written.{labels_are_open}
-use Rattle.agglo_cli.proofs.output.write_labels.Goals as goal
-
-pub put_labels-requires : goal.put_labels-requires
-put_labels-requires g c = labels_are_open _ _ _ c.in_ok-open_out.ensures

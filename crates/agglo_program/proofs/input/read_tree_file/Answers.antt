@@ -1,0 +1,10 @@
+use Rattle.std.proofs.lemmas.Result.{err_from_is_err_and}
+use Rattle.agglo_program.proofs.ReadFile.{was_opened}
+use Rattle.agglo_program.proofs.Trees.{no_tree}
+use Rattle.agglo_program.proofs.input.read_tree_file.Goals as goal
+
+pub returns-in_err-tree : goal.returns-in_err-tree
+returns-in_err-tree g c =
+    let p = err_from_is_err_and c.from_residual-in_err-tree.result c.from_residual-in_err-tree.ensures.1 in
+    rw (p.1, p.2) (no_tree _ c.in_err-tree.field-0.0 _ _ _
+    (was_opened _ c.open_in.result c.map_err.result _ _ _ c.open_in.ensures c.map_err.ensures.cases c.in_ok-map_err.was) c.in_err-tree.ensures)
