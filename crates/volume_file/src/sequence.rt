@@ -24,9 +24,11 @@ impl Sequence {
     pub fn after(start: u32) -> Sequence
         ensures { StandsAt start 0 result }
     {
-        let (high, last) = next_highs(start);
-        let (later, _) = next_highs(last);
-        let rise = rises(&high, &later);
+        let mut high = [0; LANES];
+        let mut rise = [0; LANES];
+        let last = next_highs(start, &mut high);
+        next_highs(last, &mut rise);
+        lower(&mut rise, &high);
         Sequence { high, rise }
     }
 
@@ -42,18 +44,17 @@ impl Sequence {
     }
 }
 
-/// The highest 16 bits of each of the numbers after `start`, and the last of these numbers.
-fn next_highs(start: u32) -> ([u16; LANES], u32)
-    ensures highs { AreHighs start 0 result.0 }
-    ensures last { result.1 ≡ number_after start 65536 }
+/// Writes the highest 16 bits of each of the numbers after `start`, and answers the last of these numbers.
+fn next_highs(start: u32, high: &mut [u16; LANES]) -> u32
+    ensures highs { AreHighs start 0 high.new }
+    ensures last { result ≡ number_after start 65536 }
 {
-    let mut high = [0; LANES];
     let mut number = start;
     for i in 0..LANES {
         number = next_number(number);
         high[i] = (number >> 16) as u16;
     }
-    (high, number)
+    number
 }
 
 /// The number after this one.
@@ -63,13 +64,11 @@ fn next_number(number: u32) -> u32
     number.wrapping_mul(MULTIPLIER).wrapping_add(INCREMENT)
 }
 
-/// What each lane rises by.
-fn rises(high: &[u16; LANES], later: &[u16; LANES]) -> [u16; LANES]
-    ensures { (i : ℕ) → i < 65536 → get_or result i 0 ≡ (get_or later.now i 0 + 2 ^ 16 - get_or high.now i 0) % 2 ^ 16 }
+/// Takes from each lane what it has risen from, which leaves what it has risen by.
+fn lower(lanes: &mut [u16; LANES], before: &[u16; LANES])
+    ensures { (i : ℕ) → i < 65536 → get_or lanes.new i 0 ≡ (get_or lanes.old i 0 + 2 ^ 16 - get_or before.now i 0) % 2 ^ 16 }
 {
-    let mut rise = [0; LANES];
     for i in 0..LANES {
-        rise[i] = later[i].wrapping_sub(high[i]);
+        lanes[i] = lanes[i].wrapping_sub(before[i]);
     }
-    rise
 }

@@ -1,11 +1,11 @@
-use Rattle.std.proofs.Common.{◌≡◌, ◌+◌, ◌/◌, ◌^◌, refl, ap, length-set, ◌∙◌, arith}
+use Rattle.std.proofs.Common.{◌≡◌, ◌+◌, ◌/◌, ◌^◌, ap, length-set, ◌∙◌, arith}
 use Rattle.agglo_model.specs.Generated.{next_number, number_after}
 use Rattle.volume_file.proofs.Lanes.{lane_set}
 use Rattle.volume_file.proofs.Rounds.{after_none, next_after}
 use Rattle.volume_file.proofs.sequence.next_highs.Goals as goal
 
 pub loop-i-init : goal.loop-i-init
-loop-i-init c = (refl, after_none c.args.start, λ j below. absurd (omega (arith, below)))
+loop-i-init c = (c.told-high, after_none c.args.start, λ j below. absurd (omega (arith, below)))
 
 pub loop-i-preserved : goal.loop-i-preserved
 loop-i-preserved c =
