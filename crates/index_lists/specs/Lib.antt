@@ -1,0 +1,3 @@
+pub mod LinkedLists
+pub mod Links
+pub mod Examples
