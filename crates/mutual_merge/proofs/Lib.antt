@@ -4,6 +4,10 @@ pub mod FirstContacts
 pub mod Pairing
 pub mod Survival
 pub mod MovedLinks
+pub mod Relinked
+pub mod OpenSlots
+pub mod LiveContacts
+pub mod OneGraph
 pub mod JoinedLinks
 pub mod MergedMates
 pub mod PairRounds
@@ -18,3 +22,5 @@ pub mod UnitedGraphs
 pub mod PartPlaces
 pub mod UnitePlaces
 pub mod SampleGraphs
+pub mod ClosedGraph
+pub mod LinkedStands

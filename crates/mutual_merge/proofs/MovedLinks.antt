@@ -1,16 +1,17 @@
 -- Links whose regions move to other places, link by link.
-use Rattle.std.proofs.Common.{◌≡◌, ◌≢◌, ◌⊎◌, inl, inr, ℕ, ◌+◌, ◌<◌, min, max, false, List, [], ◌∷◌, ◌++◌, length, get_or, take, refl, sym, ap, ◌∙◌, subst, arith}
+use Rattle.std.proofs.Common.{◌≡◌, ◌≢◌, ◌⊎◌, inl, inr, ℕ, ◌+◌, ◌<◌, min, max, false, cond, eqb, List, [], ◌∷◌, ◌++◌, length, get_or, take, refl, sym, ap, ◌∙◌, subst, arith}
 use Rattle.std.specs.Prelude.{All}
 use Rattle.std.proofs.lemmas.Bool.Decides.{nat_tests}
 use Rattle.std.proofs.lemmas.List.{map_push, take_more}
 use Rattle.std.proofs.lemmas.List.Sums.{sum_by_push}
-use Rattle.std.proofs.lemmas.List.Elements.{All-push, All-get_or, All-nil}
+use Rattle.std.proofs.lemmas.List.Elements.{All-push, All-get_or, All-nil, Contains-push, Contains-append_left}
 use Rattle.agglo_model.specs.Contacts.{are}
 use Rattle.agglo_model.specs.RegionGraph.{is_between, contact_in}
 use Rattle.agglo_model.proofs.GraphContacts.{contact_in-other, contact_in-alike}
 use Rattle.mutual_merge.specs.declared.links.Link.{Link}
 use Rattle.mutual_merge.specs.Linked.{IsLink, link_edges, edge_by, edges_by}
-use Rattle.mutual_merge.specs.Merged.{AreMoved}
+use Rattle.mutual_merge.specs.Moved.{AreMoved, MoveBelow}
+use Rattle.mutual_merge.specs.Slots.{IsSlotLink, live_edges}
 
 pub AreMoved-none : (places : List ℕ) (moved : List Link) → moved ≡ [] → AreMoved [] places moved
 AreMoved-none places moved none = record {
@@ -21,7 +22,7 @@ AreMoved-none places moved none = record {
 
 -- the places of the two regions of the next link, which are p and q after it
 pub record AtMoved (places : List ℕ) (l : Link) (p q : ℕ) : Type 0 where
-  pub is : IsLink (length places) l
+  pub is : IsSlotLink (length places) l
   pub a_is : p ≡ get_or places l.a 0
   pub b_is : q ≡ get_or places l.b 0
 
@@ -39,12 +40,23 @@ pub pushed : (name : ℕ → ℕ) (ls : List Link) (l : Link) (past x y : ℕ)
     → contact_in past (edges_by name (ls ++ l ∷ [])) x y ≡ contact_in past (edges_by name ls ++ edge_by name l ∷ []) x y
 pushed name ls l past x y = ap (λ es. contact_in past es x y) (map_push (edge_by name) ls l)
 
+-- what one more link adds to the edges of those that are live
+pub live_edges-push : (ls : List Link) (l : Link) → live_edges (ls ++ l ∷ []) ≡ live_edges ls + cond (eqb l.a l.b) 0 l.contact.count
+live_edges-push ls l = sum_by_push (λ m. cond (eqb m.a m.b) 0 m.contact.count) ls l
+
+live_count : (a b n : ℕ) → a ≢ b → cond (eqb a b) 0 n ≡ n
+live_count a b n differ = grind (arith, nat_tests)
+
+-- what holds of the places of several links holds of those of the first ones
+MoveBelow-front : (n : ℕ) (places : List ℕ) (ls : List Link) (l : Link) → MoveBelow n places (ls ++ l ∷ []) → MoveBelow n places ls
+MoveBelow-front n places ls l below m inside live = below m (Contains-append_left ls (l ∷ []) m inside) live
+
 -- a link whose regions come to one place is left out
 pub AreMoved-skip : (ls : List Link) (places : List ℕ) (moved : List Link) (l : Link) (p q : ℕ) → AreMoved ls places moved
     → AtMoved places l p q → p ≡ q → AreMoved (ls ++ l ∷ []) places moved
 AreMoved-skip ls places moved l p q so_far known same = record {
-  each = so_far.each;
-  within = let w = so_far.within in let s = sum_by_push (λ m. m.contact.count) ls l in omega arith;
+  each = λ n below. so_far.each n (MoveBelow-front n places ls l below);
+  within = let w = so_far.within in let s = live_edges-push ls l in omega arith;
   contacts = λ name past x y xy.
       let there = λ (k : ℕ). name (get_or places k 0) in
       so_far.contacts name past x y xy
@@ -61,17 +73,21 @@ pub AreMoved-take : (ls : List Link) (places : List ℕ) (moved : List Link) (l 
     → AtMoved places l p q → p ≢ q → m ≡ record { a = min p q; b = max p q; contact = l.contact }
     → AreMoved (ls ++ l ∷ []) places (moved ++ m ∷ [])
 AreMoved-take ls places moved l m p q so_far known differ is = record {
-  each = λ n all. All-push (IsLink n) moved m (so_far.each n all) (subst (IsLink n) (sym is) (record {
+  each = λ n below. All-push (IsLink n) moved m (so_far.each n (MoveBelow-front n places ls l below)) (subst (IsLink n) (sym is) (record {
     ordered = omega arith;
     inside =
-        let a_low = subst (λ z. z < n) (sym known.a_is) (All-get_or (λ z. z < n) places l.a 0 a_in all) in
-        let b_low = subst (λ z. z < n) (sym known.b_is) (All-get_or (λ z. z < n) places l.b 0 known.is.inside all) in
+        let low = below l (Contains-push ls l) live in
+        let a_low = low.0 in
+        let b_low = low.1 in
+        let a_is = known.a_is in
+        let b_is = known.b_is in
         omega arith;
     touching = known.is.touching;
   }));
   within =
       let w = so_far.within in
-      let s = sum_by_push (λ k. k.contact.count) ls l in
+      let s = live_edges-push ls l in
+      let c = live_count l.a l.b l.contact.count live in
       let t = sum_by_push (λ k. k.contact.count) moved m in
       let e = ap (λ k. k.contact.count) is in
       omega arith;
@@ -83,8 +99,8 @@ AreMoved-take ls places moved l m p q so_far known differ is = record {
       ∙ sym (pushed there ls l past x y);
 }
   where
-    a_in : l.a < length places
-    a_in = let up = known.is.ordered in let low = known.is.inside in omega arith
+    live : l.a ≢ l.b
+    live same = differ (known.a_is ∙ ap (λ k. get_or places k 0) same ∙ sym known.b_is)
 
     alike : (name : ℕ → ℕ) (x y : ℕ) → ((min p q ≡ p) × (max p q ≡ q)) ⊎ ((min p q ≡ q) × (max p q ≡ p))
         → is_between x y (edge_by name m) ≡ is_between x y (edge_by (λ k. name (get_or places k 0)) l)
@@ -99,10 +115,10 @@ AreMoved-take ls places moved l m p q so_far known differ is = record {
         ∙ (λ i. are (name (known.a_is i)) (name (known.b_is i)) x y)
 
 -- the next link of a list
-pub at_moved : (links : List Link) (i : ℕ) (places : List ℕ) (l : Link) → All (IsLink (length places)) links
+pub at_moved : (links : List Link) (i : ℕ) (places : List ℕ) (l : Link) → All (IsSlotLink (length places)) links
     → i < length links → l ≡ get_or links i l → AtMoved places l (get_or places l.a 0) (get_or places l.b 0)
 at_moved links i places l each below at_i = record {
-  is = subst (IsLink (length places)) (sym at_i) (All-get_or (IsLink (length places)) links i l below each);
+  is = subst (IsSlotLink (length places)) (sym at_i) (All-get_or (IsSlotLink (length places)) links i l below each);
   a_is = refl;
   b_is = refl;
 }

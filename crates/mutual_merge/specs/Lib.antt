@@ -8,3 +8,5 @@ pub mod Samples
 pub mod Parts
 pub mod Rounds
 pub mod Slots
+pub mod Moved
+pub mod Closing

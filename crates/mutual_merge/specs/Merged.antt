@@ -43,12 +43,6 @@ pub record AreMerged (regions : List Region) (links : List Link) (mates : List �
   pub fewer : link_edges joined ≤ link_edges links
   pub contacts : SameContactsBy (name_at kept) joined (λ k. name_at regions (survivor_of mates k)) links
 
--- What links become when their regions move to other places: those that join a place to itself are left out.
-pub record AreMoved (links : List Link) (places : List ℕ) (moved : List Link) : Type 0 where
-  pub each : (n : ℕ) → All (λ p. p < n) places → All (IsLink n) moved
-  pub within : link_edges moved ≤ link_edges links
-  pub contacts : (name : ℕ → ℕ) → SameContactsBy name moved (λ k. name (slice_index places k)) links
-
 -- the number by which links are sorted
 abbrev pub key_of : Link → ℕ
 key_of l = 2 ^ 32 * l.a + l.b

@@ -1,15 +1,9 @@
 ghost use Rattle.std.specs.Prelude.{◌≡◌, ◌+◌, ◌≤◌, ◌^◌, All, AllPairs, IfOk, bit_or, length};
 ghost use Rattle.agglo_model.specs.PairOrder.{most_edges};
-ghost use Rattle.mutual_merge.specs.Linked.{AreLinked, Ascend, IsLink, link_edges};
-ghost use Rattle.mutual_merge.specs.Merged.{
-  AreJoined,
-  AreMerged,
-  AreMoved,
-  AreMutual,
-  AreSurvivors,
-  IsJoinedLink,
-  NoLater,
-};
+ghost use Rattle.mutual_merge.specs.Linked.{AreLinked, Ascend, link_edges};
+ghost use Rattle.mutual_merge.specs.Merged.{AreJoined, AreMerged, AreMutual, AreSurvivors, IsJoinedLink, NoLater};
+ghost use Rattle.mutual_merge.specs.Moved.{AreMoved, AreRelinked};
+ghost use Rattle.mutual_merge.specs.Slots.{AreSlotLinks, IsSlotLink};
 
 use crate::links::Link;
 use agglo_model::Memory;
@@ -42,9 +36,7 @@ pub fn merge_mates(
     ensures { IfOk result (λ merged. AreMerged regions.now links.now mates.now merged.regions.items merged.links.items) }
 {
     let survivors = keep_survivors(alloc, regions, mates)?;
-    let mut moved = move_links(alloc, links, &survivors.places)?;
-    moved.sort_unstable_by_key(|link| pair_key(link.a, link.b));
-    let links = join_links(alloc, &moved)?;
+    let links = relink(alloc, links, &survivors.places)?;
     Ok(LinkedGraph {
         regions: survivors.kept,
         links,
@@ -82,9 +74,21 @@ fn join_regions(first: &Region, second: &Region) -> Region
     }
 }
 
-/// The links between the survivors. Links between mates are left out.
+/// The links in order after each region moves to its place in `places`, where several regions may come to one place.
+/// Links that join a place to itself are left out, and those between the same two places are added up.
+pub fn relink(alloc: Global, links: &[Link], places: &[u32]) -> Result<Vec<Link>, Memory>
+    requires { AreSlotLinks (length places.now) links.now }
+    ensures { IfOk result (λ joined. AreRelinked links.now places.now joined.items) }
+{
+    let mut moved = move_links(alloc, links, places)?;
+    moved.sort_unstable_by_key(|link| pair_key(link.a, link.b));
+    join_links(alloc, &moved)
+}
+
+/// The links between the places that their regions move to, the smaller place first. Links that join a place to
+/// itself are left out.
 fn move_links(alloc: Global, links: &[Link], places: &[u32]) -> Result<Vec<Link>, Memory>
-    requires { All (IsLink (length places.now)) links.now }
+    requires { All (IsSlotLink (length places.now)) links.now }
     ensures { IfOk result (λ moved. AreMoved links.now places.now moved.items) }
 {
     let mut moved = Vec::with_capacity(alloc, links.len())?;

@@ -1,6 +1,6 @@
 use Rattle.std.proofs.Common.{◌≡◌, ◌∙◌, ◌++◌, ◌∷◌, [], ℕ, List, get_or, take, sym, ap, subst}
 use Rattle.mutual_merge.specs.declared.links.Link.{Link}
-use Rattle.mutual_merge.specs.Merged.{AreMoved}
+use Rattle.mutual_merge.specs.Moved.{AreMoved}
 use Rattle.mutual_merge.proofs.MovedLinks.{AreMoved-skip, AreMoved-take, at_moved, more_links}
 use Rattle.mutual_merge.proofs.merging.move_links.Goals as goal
 use Rattle.mutual_merge.proofs.merging.move_links.Goals.{then-a-b+in_ok-push, else-a-b}

@@ -1,5 +1,5 @@
 use Rattle.std.proofs.Common.{take}
-use Rattle.mutual_merge.specs.Merged.{AreMoved}
+use Rattle.mutual_merge.specs.Moved.{AreMoved}
 use Rattle.mutual_merge.proofs.merging.move_links.Given as goal
 
 abbrev pub invariant-loop-link : goal.invariant-loop-link
