@@ -5,7 +5,7 @@ pub mod Pairing
 pub mod Survival
 pub mod MovedLinks
 pub mod Relinked
-pub mod OpenSlots
+pub mod OrderedSlots
 pub mod LiveContacts
 pub mod OneGraph
 pub mod JoinedLinks

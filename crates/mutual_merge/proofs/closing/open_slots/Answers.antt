@@ -3,7 +3,7 @@ use Rattle.std.proofs.lemmas.List.{get_or_default, get_or_read}
 use Rattle.std.proofs.lemmas.List.Sorted.{IsNonDecreasingBy-from_sort_by_key}
 use Rattle.agglo_model.specs.RegionGraph.{Region}
 use Rattle.mutual_merge.specs.declared.closing.OpenSlot.{OpenSlot}
-use Rattle.mutual_merge.proofs.OpenSlots.{SlotsSoFar, SlotsSoFar-skip, SlotsSoFar-take, AreOpenSlots-sorted}
+use Rattle.mutual_merge.proofs.OrderedSlots.{SlotsSoFar, SlotsSoFar-skip, SlotsSoFar-take, AreOpenSlots-sorted}
 use Rattle.mutual_merge.proofs.closing.open_slots.Goals as goal
 use Rattle.mutual_merge.proofs.closing.open_slots.Goals.{then-not-closed-slot+in_ok-push, else-not-closed-slot}
 

@@ -1,4 +1,4 @@
-use Rattle.mutual_merge.proofs.OpenSlots.{SlotsSoFar}
+use Rattle.mutual_merge.proofs.OrderedSlots.{SlotsSoFar}
 use Rattle.mutual_merge.proofs.closing.open_slots.Given as goal
 
 abbrev pub invariant-loop-slot : goal.invariant-loop-slot

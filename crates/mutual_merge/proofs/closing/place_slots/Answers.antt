@@ -1,7 +1,7 @@
 use Rattle.std.proofs.Common.{List, ap, arith}
 use Rattle.std.proofs.lemmas.List.{get_or_read}
 use Rattle.mutual_merge.specs.declared.closing.OpenSlot.{OpenSlot}
-use Rattle.mutual_merge.proofs.OpenSlots.{PlacesSoFar-next}
+use Rattle.mutual_merge.proofs.OrderedSlots.{PlacesSoFar-next}
 use Rattle.mutual_merge.proofs.closing.place_slots.Goals as goal
 
 pub loop-place-preserved : goal.loop-place-preserved

@@ -1,4 +1,4 @@
-use Rattle.mutual_merge.proofs.OpenSlots.{PlacesSoFar}
+use Rattle.mutual_merge.proofs.OrderedSlots.{PlacesSoFar}
 use Rattle.mutual_merge.proofs.closing.place_slots.Given as goal
 
 abbrev pub invariant-loop-place : goal.invariant-loop-place
