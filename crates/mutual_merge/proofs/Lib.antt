@@ -18,3 +18,6 @@ pub mod UnitedGraphs
 pub mod PartPlaces
 pub mod UnitePlaces
 pub mod SampleGraphs
+mod SlotFirsts
+mod MovedEnds
+mod GatheredLinks

@@ -39,6 +39,10 @@ pub record IsSlotLink (n : ℕ) (l : Link) : Type 0 where
   pub b_inside : l.b < n
   pub touching : 0 < l.contact.count
 
+-- each contact has some edge of the grid
+abbrev pub AreTouching : List Link → Type 0
+AreTouching links = All (λ l. 0 < l.contact.count) links
+
 -- links between so many slots, which have no more edges of the grid than there are
 pub record AreSlotLinks (n : ℕ) (links : List Link) : Type 0 where
   pub each : All (IsSlotLink n) links
@@ -92,6 +96,14 @@ slot_after from to k = cond (k == from) to k
 abbrev pub link_after : ℕ → ℕ → Link → Link
 link_after from to l = record l { a = slot_after from to l.a; b = slot_after from to l.b }
 
+-- a link with its end moved; what is gone stays as it is
+abbrev pub moved_link : ℕ → ℕ → Link → Link
+moved_link from to l = cond (l.a == l.b) l (link_after from to l)
+
+-- the other slot of a link at k
+abbrev pub other_end : ℕ → Link → ℕ
+other_end k l = cond (l.a == k) l.b l.a
+
 -- all live links that ended at one slot end at another; what is gone stays as it was
 pub record HaveMovedEnds (from to : ℕ) (old new : List Link) : Type 0 where
   pub one_each : length new ≡ length old
@@ -130,3 +142,9 @@ IsFirstOf links items k None = (j : ℕ) → Contains items j → ¬ IsLiveAt k 
 IsFirstOf links items k (Some i) = (i < length links) × IsLiveAt k (nth_link links i)
     × ((j : ℕ) → Contains items j → IsLiveAt k (nth_link links (j / 2))
     → ¬ (Before (nth_link links (j / 2)).contact (nth_link links i).contact))
+
+-- The links of these items had their ends moved, and each other one was or was not.
+pub record HaveMovedEndsOf (items : List ℕ) (from to : ℕ) (old new : List Link) : Type 0 where
+  pub one_each : length new ≡ length old
+  pub each : (i : ℕ) → i < length old → (nth_link new i ≡ nth_link old i) ⊎ (nth_link new i ≡ moved_link from to (nth_link old i))
+  pub moved : (j : ℕ) → Contains items j → nth_link new (j / 2) ≡ moved_link from to (nth_link old (j / 2))

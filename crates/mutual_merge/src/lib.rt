@@ -13,6 +13,7 @@ mod parts;
 mod residue;
 mod resting;
 mod settling;
+mod slot_links;
 #[cfg(test)]
 mod tests;
 mod trimming;
