@@ -18,3 +18,5 @@ pub mod UnitedGraphs
 pub mod PartPlaces
 pub mod UnitePlaces
 pub mod SampleGraphs
+pub mod SlotContacts
+pub mod GatheredSlots
