@@ -20,3 +20,5 @@ pub mod UnitePlaces
 pub mod SampleGraphs
 pub mod SlotContacts
 pub mod GatheredSlots
+pub mod OpenSlots
+pub mod TakenSlots

@@ -62,18 +62,18 @@ alike_step : (b b' : Bool) (c c' rest rest' : Contact) → b ≡ b' → c ≡ c'
     → cond b (added c rest) rest ≡ cond b' (added c' rest') rest'
 alike_step b b' c c' rest rest' tests same rests = λ i. cond (tests i) (added (same i) (rests i)) (rests i)
 
-pub joint-alike : (past : ℕ) (p : GraphEdge → Bool) (f g : Link → GraphEdge) (ls ms : List Link) → length ls ≡ length ms
-    → ((j : ℕ) → j < length ls → p (f (nth_link ls j)) ≡ p (g (nth_link ms j)))
+pub joint-alike : (past : ℕ) (p q : GraphEdge → Bool) (f g : Link → GraphEdge) (ls ms : List Link) → length ls ≡ length ms
+    → ((j : ℕ) → j < length ls → p (f (nth_link ls j)) ≡ q (g (nth_link ms j)))
     → ((j : ℕ) → j < length ls → (f (nth_link ls j)).contact ≡ (g (nth_link ms j)).contact)
-    → joint past p (map f ls) ≡ joint past p (map g ms)
+    → joint past p (map f ls) ≡ joint past q (map g ms)
 unfolding joint
-joint-alike past p f g [] [] len tests same = refl
-joint-alike past p f g [] (m ∷ ms) len tests same = absurd (omega arith)
-joint-alike past p f g (l ∷ ls) [] len tests same = absurd (omega arith)
-joint-alike past p f g (l ∷ ls) (m ∷ ms) len tests same =
-    alike_step (p (f l)) (p (g m)) (f l).contact (g m).contact (joint past p (map f ls)) (joint past p (map g ms))
+joint-alike past p q f g [] [] len tests same = refl
+joint-alike past p q f g [] (m ∷ ms) len tests same = absurd (omega arith)
+joint-alike past p q f g (l ∷ ls) [] len tests same = absurd (omega arith)
+joint-alike past p q f g (l ∷ ls) (m ∷ ms) len tests same =
+    alike_step (p (f l)) (q (g m)) (f l).contact (g m).contact (joint past p (map f ls)) (joint past q (map g ms))
     (tests 0 (omega arith)) (same 0 (omega arith))
-    (joint-alike past p f g ls ms (omega arith) (λ j low. tests (suc j) (omega arith)) (λ j low. same (suc j) (omega arith)))
+    (joint-alike past p q f g ls ms (omega arith) (λ j low. tests (suc j) (omega arith)) (λ j low. same (suc j) (omega arith)))
 
 -- what edges make together comes before no contact that none of them comes before
 none_before : (past : ℕ) (c : Contact) → c.tie ≤ past → ¬ (Before (no_contact past) c)
