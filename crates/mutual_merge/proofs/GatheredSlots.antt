@@ -1,5 +1,5 @@
 -- Slots and links stay their graph when links are added up.
-use Rattle.std.proofs.Common.{◌≡◌, ℕ, ◌<◌, List, Bool, length, sym, ap, ◌∙◌, subst, arith}
+use Rattle.std.proofs.Common.{◌<◌, List, Bool, length, sym, ap, ◌∙◌, subst, arith}
 use Rattle.std.specs.Prelude.{Contains}
 use Rattle.agglo_model.specs.RegionGraph.{Region, RegionGraph}
 use Rattle.mutual_merge.specs.declared.links.Link.{Link}

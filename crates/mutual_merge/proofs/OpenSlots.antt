@@ -1,12 +1,12 @@
 -- The slots and links that stand for a graph: a live link alone between two slots is an edge, and no edge at a region comes
 -- before a contact that no live link at its slot comes before.
-use Rattle.std.proofs.Common.{◌≡◌, ◌≢◌, ◌⊎◌, inl, inr, ℕ, ◌+◌, ◌<◌, ◌≤◌, min, max, Bool, true, false, List, length, get_or, refl, sym, ap, ◌∙◌, subst, arith}
+use Rattle.std.proofs.Common.{◌≡◌, ◌≢◌, ◌⊎◌, inl, inr, ℕ, ◌+◌, ◌<◌, ◌≤◌, min, max, Bool, true, List, length, refl, sym, ap, ◌∙◌, subst, arith}
 use Rattle.std.specs.Prelude.{Contains, bit_and}
 use Rattle.std.proofs.lemmas.Bool.{false≢true}
 use Rattle.std.proofs.lemmas.List.{get_or_past}
 use Rattle.std.proofs.lemmas.List.Elements.{All-contains}
 use Rattle.agglo_model.specs.PairOrder.{Contact, Threshold, Before, added}
-use Rattle.agglo_model.specs.RegionGraph.{Region, GraphEdge, RegionGraph, is_between, no_contact, contact_in}
+use Rattle.agglo_model.specs.RegionGraph.{Region, RegionGraph, is_between, no_contact, contact_in}
 use Rattle.agglo_model.specs.Settling.{IsFreeIn, IsReciprocalEdge, edge_of}
 use Rattle.agglo_model.proofs.Members.{Contains-unmap}
 use Rattle.agglo_model.proofs.GraphContacts.{joint, contact_in-is}
@@ -94,11 +94,11 @@ module _ (graph : RegionGraph) (regions : List Region) (closed : List Bool) (lin
       ∙ edge_contact-low graph stands.graph_is past f inside (omega arith) in
       joint-not_before past (is_between f.a f.b) (edges_by (name_at regions) links) c (omega arith)
       (λ e in_e pass.
-          let found = Contains-unmap (edge_by (name_at regions)) links e in_e in
-          let at_j = index_of links found.0 found.1 in
-          let live = live_at found.0 k f.a f.b found.1 is_open differ (ap (is_between f.a f.b) found.2 ∙ pass) at_k in
-          subst (λ z. ¬ (Before z.contact c)) found.2
-          (subst (λ l. ¬ (Before l.contact c)) at_j.2 (each at_j.0 at_j.1 (subst (IsLiveAt k) (sym at_j.2) live))))
+      let found = Contains-unmap (edge_by (name_at regions)) links e in_e in
+      let at_j = index_of links found.0 found.1 in
+      let live = live_at found.0 k f.a f.b found.1 is_open differ (ap (is_between f.a f.b) found.2 ∙ pass) at_k in
+      subst (λ z. ¬ (Before z.contact c)) found.2
+      (subst (λ l. ¬ (Before l.contact c)) at_j.2 (each at_j.0 at_j.1 (subst (IsLiveAt k) (sym at_j.2) live))))
       (subst (λ d. Before d c) (sym sum) before)
 
   -- a reciprocal link
@@ -106,7 +106,7 @@ module _ (graph : RegionGraph) (regions : List Region) (closed : List Bool) (lin
     pub open_pair : IsOpen closed (nth_link links i).a × IsOpen closed (nth_link links i).b
     open_pair = stands.slots.open_ends (nth_link links i) (Contains-nth_link links i pair.there) pair.live
 
-    pub names_differ : name_at regions (nth_link links i).a ≢ name_at regions (nth_link links i).b
+    names_differ : name_at regions (nth_link links i).a ≢ name_at regions (nth_link links i).b
     names_differ same = pair.live (stands.slots.apart (nth_link links i).a (nth_link links i).b open_pair.0 open_pair.1 same)
 
     pair_contact : (past : ℕ) → contact_in past graph.edges (name_at regions (nth_link links i).a) (name_at regions (nth_link links i).b)

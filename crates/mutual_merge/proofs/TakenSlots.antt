@@ -1,6 +1,6 @@
 -- When the region of one slot is taken into that of another, the slots and links become the graph after the merge of the two.
 use Rattle.std.proofs.Common.{◌≡◌, ◌≢◌, ◌⊎◌, inl, inr, ℕ, ◌<◌, ◌≤◌, min, max, Bool, true, false, cond, eqb, List, length, get_or, refl, sym, ap, ◌∙◌, subst, arith, length-set, get_or-set_same, get_or-set_other}
-use Rattle.std.specs.Prelude.{◌↔◌, map, All, Contains, bit_or}
+use Rattle.std.specs.Prelude.{map, All, Contains, bit_or}
 use Rattle.std.proofs.Math.ListN.{set}
 use Rattle.std.proofs.lemmas.Bool.{cases_eq, false≢true}
 use Rattle.std.proofs.lemmas.Bool.Decides.{nat_tests}
@@ -12,13 +12,13 @@ use Rattle.agglo_model.specs.Greedy.{Merge}
 use Rattle.agglo_model.specs.RegionGraph.{Region, RegionGraph, is_between, contact_in}
 use Rattle.agglo_model.specs.Settling.{HasBothFaces, IsGraphAfter, IsReciprocalEdge, edge_after, edge_of, name_after}
 use Rattle.agglo_model.proofs.GraphAfter.{after_exists}
-use Rattle.agglo_model.proofs.GraphContacts.{joint, contact_in-is, joint-map}
+use Rattle.agglo_model.proofs.GraphContacts.{contact_in-is, joint-map}
 use Rattle.agglo_model.proofs.GraphMerges.{SameContacts-after}
 use Rattle.agglo_model.proofs.RegionLists.{one_region}
 use Rattle.mutual_merge.specs.declared.links.Link.{Link}
 use Rattle.mutual_merge.specs.Linked.{region_at, name_at, faces_at, edge_by, edges_by}
-use Rattle.mutual_merge.specs.Slots.{AreSlotLinks, AreSlots, HasOpen, IsLive, IsOpen, IsReciprocalAt, IsSlotLink, IsTakenOver, Joins, Stands, both_regions, link_after, live_edges, merge_at, nth_link, slot_after}
-use Rattle.mutual_merge.proofs.OpenSlots.{names_differ, open_below, open_pair, open_within, order_cases, reciprocal_at, reciprocal_there, region_there}
+use Rattle.mutual_merge.specs.Slots.{AreSlots, HasOpen, HaveMovedEnds, IsLive, IsOpen, IsReciprocalAt, IsSlotLink, IsTakenOver, Joins, Stands, both_regions, link_after, live_edges, merge_at, nth_link, slot_after}
+use Rattle.mutual_merge.proofs.OpenSlots.{open_below, open_pair, open_within, order_cases, reciprocal_at, reciprocal_there, region_there}
 use Rattle.mutual_merge.proofs.SlotContacts.{Contains-nth_link, index_of, joint-alike, sums_below}
 
 slot_taken : (from to k : ℕ) → k ≡ from → slot_after from to k ≡ to
@@ -35,6 +35,35 @@ name_kept s b x differ = grind (arith, nat_tests)
 
 same_ends : (p q x y : ℕ) → p ≡ q → x ≢ y → are p q x y ≡ false
 same_ends p q x y same xy = grind (arith, nat_tests)
+
+-- the edges of the grid that a link has, where it is not gone
+abbrev count_of : Link → ℕ
+count_of l = cond (eqb l.a l.b) 0 l.contact.count
+
+-- what becomes of links when those that ended at one slot end at another
+module _ (from to : ℕ) (links new_links : List Link) (moved : HaveMovedEnds from to links new_links) where
+  -- each link is as it was, or has its new ends
+  new_link : (j : ℕ) → j < length links
+      → ((nth_link new_links j ≡ nth_link links j) × ((nth_link links j).a ≡ (nth_link links j).b))
+      ⊎ ((nth_link new_links j ≡ link_after from to (nth_link links j)) × IsLive (nth_link links j))
+  new_link j low = elim (cases_eq (nth_link links j).a (nth_link links j).b) [
+    | inl gone ↦ inl (moved.gone j low (λ live. live gone), gone)
+    | inr live ↦ inr (moved.live j low live, live)
+  ]
+
+  pub moved-fewer : live_edges new_links ≤ live_edges links
+  moved-fewer = sums_below count_of new_links links moved.one_each (λ j below.
+      let low : j < length links = let len = moved.one_each in omega arith in
+      let l = nth_link links j in
+      elim (new_link j low) [
+        | inl (same, gone) ↦ subst (λ z. count_of z ≤ count_of l) (sym same) (omega arith)
+        | inr (after, live) ↦
+            subst (λ z. count_of z ≤ count_of l) (sym after)
+            (no_more (slot_after from to l.a) (slot_after from to l.b) l.a l.b l.contact.count live)
+      ])
+    where
+      no_more : (p q a b n : ℕ) → a ≢ b → cond (eqb p q) 0 n ≤ cond (eqb a b) 0 n
+      no_more p q a b n ab = grind (arith, nat_tests)
 
 -- two open slots, and the merge of their regions
 record AreMerging (regions : List Region) (closed : List Bool) (from to : ℕ) (m : Merge) : Type 0 where
@@ -126,21 +155,20 @@ module _ (graph : RegionGraph) (regions : List Region) (closed : List Bool) (lin
   apart_then : (j k : ℕ) → IsOpen new_closed j → IsOpen new_closed k → name_at new_regions j ≡ name_at new_regions k → j ≡ k
   apart_then j k open_j open_k same = elim (cases_eq j to) [
     | inl j_to ↦ elim (cases_eq k to) [
-        | inl k_to ↦ j_to ∙ sym k_to
-        | inr kt ↦ absurd (alone k open_k kt (ap (λ r. r.name) (sym (region_kept k kt)) ∙ sym same ∙ ap (name_at new_regions) j_to ∙ name_both))
-      ]
+      | inl k_to ↦ j_to ∙ sym k_to
+      | inr kt ↦ absurd (alone k open_k kt (ap (λ r. r.name) (sym (region_kept k kt)) ∙ sym same ∙ ap (name_at new_regions) j_to ∙ name_both))
+    ]
     | inr jt ↦ elim (cases_eq k to) [
-        | inl k_to ↦ absurd (alone j open_j jt (ap (λ r. r.name) (sym (region_kept j jt)) ∙ same ∙ ap (name_at new_regions) k_to ∙ name_both))
-        | inr kt ↦
-            stands.slots.apart j k (was_open j open_j) (was_open k open_k)
-            (ap (λ r. r.name) (sym (region_kept j jt)) ∙ same ∙ ap (λ r. r.name) (region_kept k kt))
-      ]
+      | inl k_to ↦ absurd (alone j open_j jt (ap (λ r. r.name) (sym (region_kept j jt)) ∙ same ∙ ap (name_at new_regions) k_to ∙ name_both))
+      | inr kt ↦
+          stands.slots.apart j k (was_open j open_j) (was_open k open_k)
+          (ap (λ r. r.name) (sym (region_kept j jt)) ∙ same ∙ ap (λ r. r.name) (region_kept k kt))
+    ]
   ]
     where
       alone : (k : ℕ) → IsOpen new_closed k → k ≢ to → name_at regions k ≢ m.survivor
       alone k is_open kt = (other_name k (was_open k is_open) (not_from k is_open) kt).0
 
-  -- what becomes of a link
   same_length : length new_links ≡ length links
   same_length = taken.links_are.one_each
 
@@ -159,29 +187,20 @@ module _ (graph : RegionGraph) (regions : List Region) (closed : List Bool) (lin
     | inr kf ↦ subst (λ z. z < n) (sym (slot_kept from to k kf)) in_k
   ]
 
-  -- each link is as it was, or has its new ends
-  new_link : (j : ℕ) → j < length links
-      → ((nth_link new_links j ≡ nth_link links j) × ((nth_link links j).a ≡ (nth_link links j).b))
-      ⊎ ((nth_link new_links j ≡ link_after from to (nth_link links j)) × IsLive (nth_link links j))
-  new_link j low = elim (cases_eq (nth_link links j).a (nth_link links j).b) [
-    | inl gone ↦ inl (taken.links_are.gone j low (λ live. live gone), gone)
-    | inr live ↦ inr (taken.links_are.live j low live, live)
-  ]
-
   links_inside : All (IsSlotLink (length new_regions)) new_links
   links_inside = All-from_get_or (IsSlotLink (length new_regions)) new_links
       (record { a = 0; b = 0; contact = record { sum = 0; count = 1; tie = 0 } }) (λ j below.
-          let low : j < length links = let len = same_length in omega arith in
-          subst (λ n. IsSlotLink n (nth_link new_links j)) (sym same_regions) (elim (new_link j low) [
-            | inl (same, gone) ↦ subst (IsSlotLink (length regions)) (sym same) (is_link j low)
-            | inr (moved, live) ↦
-                let is = is_link j low in
-                subst (IsSlotLink (length regions)) (sym moved) (record {
-                  a_inside = slot_inside (length regions) (nth_link links j).a in_to is.a_inside;
-                  b_inside = slot_inside (length regions) (nth_link links j).b in_to is.b_inside;
-                  touching = is.touching;
-                })
-          ]))
+      let low : j < length links = let len = same_length in omega arith in
+      subst (λ n. IsSlotLink n (nth_link new_links j)) (sym same_regions) (elim (new_link from to links new_links taken.links_are j low) [
+        | inl (same, gone) ↦ subst (IsSlotLink (length regions)) (sym same) (is_link j low)
+        | inr (moved, live) ↦
+            let is = is_link j low in
+            subst (IsSlotLink (length regions)) (sym moved) (record {
+              a_inside = slot_inside (length regions) (nth_link links j).a in_to is.a_inside;
+              b_inside = slot_inside (length regions) (nth_link links j).b in_to is.b_inside;
+              touching = is.touching;
+            })
+      ]))
     where
       same_regions : length new_regions ≡ length regions
       same_regions = ap length taken.regions_are ∙ length-set regions to (both_regions (region_at regions to) (region_at regions from))
@@ -192,27 +211,12 @@ module _ (graph : RegionGraph) (regions : List Region) (closed : List Bool) (lin
       is_link : (j : ℕ) → j < length links → IsSlotLink (length regions) (nth_link links j)
       is_link j low = All-contains (IsSlotLink (length regions)) links (nth_link links j) stands.slots.links_are.each (Contains-nth_link links j low)
 
-  fewer_edges : live_edges new_links ≤ live_edges links
-  fewer_edges = sums_below (λ l. cond (eqb l.a l.b) 0 l.contact.count) new_links links same_length (λ j below.
-      let low : j < length links = let len = same_length in omega arith in
-      elim (new_link j low) [
-        | inl (same, gone) ↦
-            subst (λ l. cond (eqb l.a l.b) 0 l.contact.count ≤ cond (eqb (nth_link links j).a (nth_link links j).b) 0 (nth_link links j).contact.count)
-            (sym same) (omega arith)
-        | inr (moved, live) ↦
-            subst (λ l. cond (eqb l.a l.b) 0 l.contact.count ≤ cond (eqb (nth_link links j).a (nth_link links j).b) 0 (nth_link links j).contact.count)
-            (sym moved) (counted (slot_after from to (nth_link links j).a) (slot_after from to (nth_link links j).b) (nth_link links j).a (nth_link links j).b (nth_link links j).contact.count live)
-      ])
-    where
-      counted : (p q a b n : ℕ) → a ≢ b → cond (eqb p q) 0 n ≤ cond (eqb a b) 0 n
-      counted p q a b n ab = grind (arith, nat_tests)
-
   open_then : (l : Link) → Contains new_links l → IsLive l → IsOpen new_closed l.a × IsOpen new_closed l.b
   open_then l inside live =
       let found = index_of new_links l inside in
       let j = found.0 in
       let low : j < length links = let len = same_length in omega (arith, found.1) in
-      elim (new_link j low) [
+      elim (new_link from to links new_links taken.links_are j low) [
         | inl (same, gone) ↦ absurd (live (subst (λ z. z.a ≡ z.b) (sym same ∙ found.2) gone))
         | inr (moved, old_live) ↦
             let both = ends j low old_live in
@@ -226,7 +230,7 @@ module _ (graph : RegionGraph) (regions : List Region) (closed : List Bool) (lin
         ap length taken.closed_are ∙ length-set closed from true ∙ stands.slots.one_each
         ∙ sym (ap length taken.regions_are ∙ length-set regions to (both_regions (region_at regions to) (region_at regions from)));
     apart = apart_then;
-    links_are = record { each = links_inside; within = let fewer = fewer_edges in let w = stands.slots.links_are.within in omega arith };
+    links_are = record { each = links_inside; within = let fewer = moved-fewer from to links new_links taken.links_are in let w = stands.slots.links_are.within in omega arith };
     open_ends = open_then;
   }
 
@@ -235,7 +239,7 @@ module _ (graph : RegionGraph) (regions : List Region) (closed : List Bool) (lin
     tests_alike : (j : ℕ) → j < length links
         → is_between x y (edge_after m (edge_by (name_at regions) (nth_link links j)))
         ≡ is_between x y (edge_by (name_at new_regions) (nth_link new_links j))
-    tests_alike j low = elim (new_link j low) [
+    tests_alike j low = elim (new_link from to links new_links taken.links_are j low) [
       | inl (same, gone) ↦
           let l = nth_link links j in
           same_ends (name_after m (name_at regions l.a)) (name_after m (name_at regions l.b)) x y (ap (λ k. name_after m (name_at regions k)) gone) xy
@@ -249,7 +253,7 @@ module _ (graph : RegionGraph) (regions : List Region) (closed : List Bool) (lin
     ]
 
     contacts_alike : (j : ℕ) → j < length links → (nth_link links j).contact ≡ (nth_link new_links j).contact
-    contacts_alike j low = elim (new_link j low) [
+    contacts_alike j low = elim (new_link from to links new_links taken.links_are j low) [
       | inl (same, gone) ↦ ap (λ l. l.contact) (sym same)
       | inr (moved, live) ↦ ap (λ l. l.contact) (sym moved)
     ]
@@ -282,19 +286,19 @@ module _ (graph : RegionGraph) (regions : List Region) (closed : List Bool) (lin
     both_faces : HasBothFaces graph m (bit_or (faces_at regions to) (faces_at regions from))
     both_faces = elim (order_cases (name_at regions to) (name_at regions from)) [
       | inl (low, high) ↦ record {
-          own = faces_at regions to;
-          taken = faces_at regions from;
-          survivor = old_region to m.survivor merging.to_open (sym (merging.survivor_is ∙ low));
-          absorbed = old_region from m.absorbed merging.from_open (sym (merging.absorbed_is ∙ high));
-          both = refl;
-        }
+        own = faces_at regions to;
+        taken = faces_at regions from;
+        survivor = old_region to m.survivor merging.to_open (sym (merging.survivor_is ∙ low));
+        absorbed = old_region from m.absorbed merging.from_open (sym (merging.absorbed_is ∙ high));
+        both = refl;
+      }
       | inr (low, high) ↦ record {
-          own = faces_at regions from;
-          taken = faces_at regions to;
-          survivor = old_region from m.survivor merging.from_open (sym (merging.survivor_is ∙ low));
-          absorbed = old_region to m.absorbed merging.to_open (sym (merging.absorbed_is ∙ high));
-          both = or_comm (faces_at regions to) (faces_at regions from);
-        }
+        own = faces_at regions from;
+        taken = faces_at regions to;
+        survivor = old_region from m.survivor merging.from_open (sym (merging.survivor_is ∙ low));
+        absorbed = old_region to m.absorbed merging.to_open (sym (merging.absorbed_is ∙ high));
+        both = or_comm (faces_at regions to) (faces_at regions from);
+      }
     ]
 
     both_there : Contains next.regions (region_at new_regions to)
@@ -306,12 +310,12 @@ module _ (graph : RegionGraph) (regions : List Region) (closed : List Bool) (lin
     region_was : (r : Region) → Contains next.regions r → HasOpen new_regions new_closed r
     region_was r inside = elim (cases_eq r.name m.survivor) [
       | inl at_survivor ↦ (
-          to,
-          below to to_still,
-          to_still,
-          one_region next.regions (region_at new_regions to) r after.graph_is.regions_ascend both_there inside
-              (name_both ∙ sym at_survivor),
-        )
+        to,
+        below to to_still,
+        to_still,
+        one_region next.regions (region_at new_regions to) r after.graph_is.regions_ascend both_there inside
+            (name_both ∙ sym at_survivor),
+      )
       | inr other ↦
           let old = (after.others r other).0 inside in
           let slot = (stands.regions_are r).0 old.0 in
