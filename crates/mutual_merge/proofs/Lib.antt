@@ -21,3 +21,7 @@ pub mod SampleGraphs
 mod SlotFirsts
 mod MovedEnds
 mod GatheredLinks
+pub mod SlotContacts
+pub mod GatheredSlots
+pub mod OpenSlots
+pub mod TakenSlots
