@@ -63,12 +63,12 @@ first_is_new links seen item index slot first touching below half live is before
         → IfSome f (λ i. Before (nth_link links index).contact (nth_link links i).contact)
         → (j : ℕ) → Contains seen j → IsLiveAt slot (nth_link links (j / 2))
         → Before (nth_link links (j / 2)).contact (nth_link links index).contact → ⊥) [
-      | None ↦ λ none _ j old at_slot earlier. none j old at_slot
-      | Some i ↦ λ some comes j old at_slot earlier.
-          some.2 j old at_slot (before_trans (nth_link links (j / 2)).contact (nth_link links index).contact (nth_link links i).contact
-          (touching_at links (j / 2) touching) (touching_at links index touching) (touching_at links i touching)
-          earlier comes)
-    ] is before
+          | None ↦ λ none _ j old at_slot earlier. none j old at_slot
+          | Some i ↦ λ some comes j old at_slot earlier.
+              some.2 j old at_slot (before_trans (nth_link links (j / 2)).contact (nth_link links index).contact (nth_link links i).contact
+              (touching_at links (j / 2) touching) (touching_at links index touching) (touching_at links i touching)
+              earlier comes)
+        ] is before
 
 -- a read of a list of links between so many slots
 pub slot_link_at : (n : ℕ) (links : List Link) (i : ℕ) (l : Link) → All (IsSlotLink n) links → i < length links → l ≡ get_or links i l → IsSlotLink n l

@@ -7,6 +7,7 @@
 
 mod firsts;
 mod links;
+mod listing;
 mod merging;
 mod pairs;
 mod parts;
@@ -14,6 +15,7 @@ mod residue;
 mod resting;
 mod settling;
 mod slot_links;
+mod slots;
 #[cfg(test)]
 mod tests;
 mod trimming;
