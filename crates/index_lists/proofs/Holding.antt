@@ -9,7 +9,7 @@ use Rattle.index_lists.specs.declared.nodes.Ends.{Ends}
 use Rattle.index_lists.specs.declared.nodes.Node.{Node}
 use Rattle.index_lists.specs.declared.nodes.TheConstants.{NONE}
 use Rattle.index_lists.specs.LinkedLists.{AreLists, IsLinked, list_at}
-use Rattle.index_lists.specs.Links.{AreLinks, Neighbours, HasItems, Holds, IsJoined, RunsTo, ends_at, held, linked_lists, neighbours, next_from, node_at}
+use Rattle.index_lists.specs.Links.{AreLinks, Neighbours, HasItems, Holds, JoinsItems, RunsTo, ends_at, held, linked_lists, neighbours, next_from, node_at}
 use Rattle.index_lists.proofs.ItemLists.{Once, contains_cut, once_cons}
 use Rattle.index_lists.proofs.LawfulLists.{list_is_there}
 use Rattle.index_lists.proofs.Runs.{contains_last, last_or, runs_cut, runs_keep, runs_last}
@@ -40,12 +40,12 @@ items_stay nodes changed e xs items next previous run =
     (previous_of_border changed e ∙ sym (previous_of_border nodes e)) run
 
 -- what nodes say of an item that was not joined
-pub next_at : (before after : ℕ) (nodes : List Node) (e : Ends) (joined : List Node) (f : Ends) → IsJoined before after nodes e joined f
+pub next_at : (before after : ℕ) (nodes : List Node) (e : Ends) (joined : List Node) (f : Ends) → JoinsItems before after nodes e joined f
     → (x : ℕ) → x ≢ NONE → x ≢ before → (node_at joined x).next ≡ (node_at nodes x).next
 next_at before after nodes e joined f join x item other =
     sym (next_of_item joined f x item) ∙ join.next_stays x other ∙ next_of_item nodes e x item
 
-pub previous_at : (before after : ℕ) (nodes : List Node) (e : Ends) (joined : List Node) (f : Ends) → IsJoined before after nodes e joined f
+pub previous_at : (before after : ℕ) (nodes : List Node) (e : Ends) (joined : List Node) (f : Ends) → JoinsItems before after nodes e joined f
     → (x : ℕ) → x ≢ NONE → x ≢ after → (node_at joined x).previous ≡ (node_at nodes x).previous
 previous_at before after nodes e joined f join x item other =
     sym (previous_of_item joined f x item) ∙ join.previous_stays x other ∙ previous_of_item nodes e x item

@@ -5,7 +5,7 @@ use Rattle.std.proofs.lemmas.List.{get_or_default, length-set}
 use Rattle.index_lists.specs.declared.nodes.Ends.{Ends}
 use Rattle.index_lists.specs.declared.nodes.Node.{Node}
 use Rattle.index_lists.specs.declared.nodes.TheConstants.{NONE}
-use Rattle.index_lists.specs.Links.{IsJoined, next_from, node_at, previous_from}
+use Rattle.index_lists.specs.Links.{JoinsItems, next_from, node_at, previous_from}
 use Rattle.index_lists.proofs.Walking.{next_of_border, next_of_item, previous_of_border, previous_of_item}
 
 pub record SetsNext (before after : ℕ) (nodes : List Node) (ends : Ends) (new_nodes : List Node) (new_ends : Ends) : Type 0 where
@@ -21,7 +21,7 @@ pub record SetsPrevious (before after : ℕ) (nodes : List Node) (ends : Ends) (
   pub next_stays : (x : ℕ) → next_from new_nodes new_ends x ≡ next_from nodes ends x
 
 pub joined : (before after : ℕ) (nodes : List Node) (ends : Ends) (nodes1 : List Node) (ends1 : Ends) (nodes2 : List Node) (ends2 : Ends)
-    → SetsNext before after nodes ends nodes1 ends1 → SetsPrevious before after nodes1 ends1 nodes2 ends2 → IsJoined before after nodes ends nodes2 ends2
+    → SetsNext before after nodes ends nodes1 ends1 → SetsPrevious before after nodes1 ends1 nodes2 ends2 → JoinsItems before after nodes ends nodes2 ends2
 joined before after nodes ends nodes1 ends1 nodes2 ends2 first second = record {
   as_many = second.as_many ∙ first.as_many;
   adjoin = record { on = second.next_stays before ∙ first.next_set; back = second.previous_set };

@@ -10,3 +10,4 @@ mod Reading
 mod Opening
 mod Joining
 mod Within
+mod Copying

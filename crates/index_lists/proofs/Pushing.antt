@@ -7,7 +7,7 @@ use Rattle.index_lists.specs.declared.nodes.Ends.{Ends}
 use Rattle.index_lists.specs.declared.nodes.Node.{Node}
 use Rattle.index_lists.specs.declared.nodes.TheConstants.{NONE}
 use Rattle.index_lists.specs.LinkedLists.{LinkedLists, AreLists, IsLinked, list_at, with_list}
-use Rattle.index_lists.specs.Links.{AreLinks, Holds, IsJoined, Neighbours, RunsTo, ends_at, held, linked_lists, neighbours, node_at, walks}
+use Rattle.index_lists.specs.Links.{AreLinks, Holds, JoinsItems, Neighbours, RunsTo, ends_at, held, linked_lists, neighbours, node_at, walks}
 use Rattle.index_lists.proofs.ItemLists.{once_cons}
 use Rattle.index_lists.proofs.LawfulLists.{change_list, in_changed, linked_still}
 use Rattle.index_lists.proofs.Runs.{runs_from}
@@ -16,7 +16,7 @@ use Rattle.index_lists.proofs.Holding.{are_links, change_held, first_cases, item
 
 pub pushed : (nodes : List Node) (ends : List Ends) (lists : List (List ℕ)) (l item : ℕ) (nodes1 : List Node) (e1 : Ends) (nodes2 : List Node) (e2 : Ends)
     → Holds nodes ends lists → l < length lists → item < length nodes → ¬ IsLinked (held nodes lists) item
-    → IsJoined item (ends_at ends l).first nodes (ends_at ends l) nodes1 e1 → IsJoined NONE item nodes1 e1 nodes2 e2
+    → JoinsItems item (ends_at ends l).first nodes (ends_at ends l) nodes1 e1 → JoinsItems NONE item nodes1 e1 nodes2 e2
     → Holds nodes2 (set ends l e2) (set lists l (item ∷ list_at (held nodes lists) l))
 pushed nodes ends lists l item nodes1 e1 nodes2 e2 holds there below free to_first join2 =
     let all : LinkedLists = held nodes lists in
@@ -28,8 +28,8 @@ pushed nodes ends lists l item nodes1 e1 nodes2 e2 holds there below free to_fir
     let is_item_too : item ≢ NONE = λ (same : item ≡ 4294967295). omega arith in
     let there_too : l < length ends = omega (arith, holds.one_each) in
     let many : length nodes2 ≡ length nodes = join2.as_many ∙ to_first.as_many in
-    let join1 : IsJoined item (s.next NONE) nodes e nodes1 e1 =
-    subst (λ v. IsJoined item v nodes e nodes1 e1) (sym (next_of_border nodes e)) to_first in
+    let join1 : JoinsItems item (s.next NONE) nodes e nodes1 e1 =
+    subst (λ v. JoinsItems item v nodes e nodes1 e1) (sym (next_of_border nodes e)) to_first in
     let run : RunsTo s NONE xs NONE = holds.linked l there_too in
     let absent : ((x : ℕ) → Contains xs x → x ≢ item) = λ x inside same. free (l, subst (λ w. Contains xs w) same inside) in
     let not_first : item ≢ s.next NONE = λ same. elim (first_cases s NONE xs NONE run) [
@@ -80,8 +80,8 @@ pushed nodes ends lists l item nodes1 e1 nodes2 e2 holds there below free to_fir
 -- what the call leaves, from what it did step by step
 pub pushed_links : (nodes : List Node) (ends : List Ends) (all : LinkedLists) (l item n : ℕ) (e : Ends) (m1 n1 : List Node) (e1 : Ends)
     (m2 n2 : List Node) (e2 : Ends) → linked_lists nodes ends ≡ all → AreLinks nodes ends → l < length all.lists
-    → item < all.items → ¬ IsLinked all item → e ≡ get_or ends l e → m1 ≡ nodes → length m1 ≡ n → IsJoined item e.first m1 e n1 e1
-    → m2 ≡ refilled n n1 nodes → length m2 ≡ n → IsJoined NONE item m2 e1 n2 e2
+    → item < all.items → ¬ IsLinked all item → e ≡ get_or ends l e → m1 ≡ nodes → length m1 ≡ n → JoinsItems item e.first m1 e n1 e1
+    → m2 ≡ refilled n n1 nodes → length m2 ≡ n → JoinsItems NONE item m2 e1 n2 e2
     → AreLinks (refilled n n2 (refilled n n1 nodes)) (set ends l e2)
     × (linked_lists (refilled n n2 (refilled n n1 nodes)) (set ends l e2) ≡ with_list all l (item ∷ list_at all l))
 pushed_links nodes ends all l item n e m1 n1 e1 m2 n2 e2 view links there below free read same1 long1 join1 same2 long2 join2 =
@@ -91,10 +91,10 @@ pushed_links nodes ends all l item n e m1 n1 e1 m2 n2 e2 view links there below 
     (λ a_there a_below a_free.
     let l_there : l < length ends = subst (λ k. l < k) links.one_each a_there in
     let is : e ≡ ends_at ends l = get_or_read ends l e l_there read (record { first = NONE; last = NONE }) in
-    let first_join : IsJoined item (ends_at ends l).first nodes (ends_at ends l) n1 e1 =
-    subst (λ f. IsJoined item f.first nodes f n1 e1) is (subst (λ ns. IsJoined item e.first ns e n1 e1) same1 join1) in
+    let first_join : JoinsItems item (ends_at ends l).first nodes (ends_at ends l) n1 e1 =
+    subst (λ f. JoinsItems item f.first nodes f n1 e1) is (subst (λ ns. JoinsItems item e.first ns e n1 e1) same1 join1) in
     let after_first : m2 ≡ n1 = same2 ∙ refilled-is n n1 nodes (join1.as_many ∙ long1) in
-    let second_join : IsJoined NONE item n1 e1 n2 e2 = subst (λ ns. IsJoined NONE item ns e1 n2 e2) after_first join2 in
+    let second_join : JoinsItems NONE item n1 e1 n2 e2 = subst (λ ns. JoinsItems NONE item ns e1 n2 e2) after_first join2 in
     are_links n2 (set ends l e2) (set (walks nodes ends) l (item ∷ list_at (held nodes (walks nodes ends)) l)) (length nodes) seen
     (pushed nodes ends (walks nodes ends) l item n1 e1 n2 e2 links a_there a_below a_free first_join second_join)
     (second_join.as_many ∙ first_join.as_many) (refilled-is n n2 (refilled n n1 nodes) (join2.as_many ∙ long2)))

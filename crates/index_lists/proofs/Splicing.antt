@@ -9,7 +9,7 @@ use Rattle.index_lists.specs.declared.nodes.Ends.{Ends}
 use Rattle.index_lists.specs.declared.nodes.Node.{Node}
 use Rattle.index_lists.specs.declared.nodes.TheConstants.{NONE}
 use Rattle.index_lists.specs.LinkedLists.{LinkedLists, AreLists, IsLinked, list_at, with_list}
-use Rattle.index_lists.specs.Links.{AreLinks, HasItems, Holds, IsJoined, Neighbours, RunsTo, ends_at, held, linked_lists, neighbours, next_from, node_at, walks}
+use Rattle.index_lists.specs.Links.{AreLinks, HasItems, Holds, JoinsItems, Neighbours, RunsTo, ends_at, held, linked_lists, neighbours, next_from, node_at, walks}
 use Rattle.index_lists.proofs.ItemLists.{once_append, once_nil}
 use Rattle.index_lists.proofs.LawfulLists.{change_list, changed_cases, in_changed, in_other}
 use Rattle.index_lists.proofs.Runs.{contains_last, last_or, runs_from, runs_last, runs_on}
@@ -46,7 +46,7 @@ spliced_empty nodes ends lists from to holds there apart first =
 
 pub spliced : (nodes : List Node) (ends : List Ends) (lists : List (List ℕ)) (from to : ℕ) (nodes1 : List Node) (e1 : Ends)
     → Holds nodes ends lists → from < length lists → to < length lists → from ≢ to → (ends_at ends from).first ≢ NONE
-    → IsJoined (ends_at ends to).last (ends_at ends from).first nodes (ends_at ends to) nodes1 e1
+    → JoinsItems (ends_at ends to).last (ends_at ends from).first nodes (ends_at ends to) nodes1 e1
     → Holds nodes1 (set (set ends from (record { first = NONE; last = NONE })) to (record { first = e1.first; last = (ends_at ends from).last }))
     (set (set lists from []) to (list_at (held nodes lists) to ++ list_at (held nodes lists) from))
 spliced nodes ends lists from to nodes1 e1 holds from_there to_there differ some to_first =
@@ -73,8 +73,8 @@ spliced nodes ends lists from to nodes1 e1 holds from_there to_there differ some
     let b : ℕ = r.next NONE in
     let is_last : e.last ≡ a = sym (previous_of_border nodes e) ∙ runs_last s NONE kept NONE run_kept in
     let is_first : f.first ≡ b = sym (next_of_border nodes f) in
-    let join : IsJoined a b nodes e nodes1 e1 =
-    subst (λ v. IsJoined v b nodes e nodes1 e1) is_last (subst (λ v. IsJoined e.last v nodes e nodes1 e1) is_first to_first) in
+    let join : JoinsItems a b nodes e nodes1 e1 =
+    subst (λ v. JoinsItems v b nodes e nodes1 e1) is_last (subst (λ v. JoinsItems e.last v nodes e nodes1 e1) is_first to_first) in
     let b_item : b ≢ NONE = λ same. some (is_first ∙ same) in
     let a_cases : (NONE ≡ a) ⊎ Contains kept a = contains_cases NONE a kept (contains_last NONE kept) in
     let b_moved : Contains moved b = elim (first_cases r NONE moved NONE run_moved) [
@@ -166,7 +166,7 @@ spliced nodes ends lists from to nodes1 e1 holds from_there to_there differ some
 pub spliced_links : (nodes : List Node) (ends : List Ends) (all : LinkedLists) (from to n : ℕ) (f e : Ends) (m1 n1 : List Node)
     (e1 : Ends) → linked_lists nodes ends ≡ all → AreLinks nodes ends → from < length all.lists → to < length all.lists → from ≢ to
     → f ≡ get_or ends from f → f.first ≢ NONE → e ≡ get_or ends to e → m1 ≡ nodes → length m1 ≡ n
-    → IsJoined e.last f.first m1 e n1 e1
+    → JoinsItems e.last f.first m1 e n1 e1
     → let after : List Ends = set (set ends from (record { first = NONE; last = NONE })) to (record { first = e1.first; last = f.last }) in
     AreLinks (refilled n n1 nodes) after × (linked_lists (refilled n n1 nodes) after ≡ with_list (with_list all from []) to (list_at all to ++ list_at all from))
 spliced_links nodes ends all from to n f e m1 n1 e1 view links from_there to_there apart read_from some read_to same1 long1 join =
@@ -179,9 +179,9 @@ spliced_links nodes ends all from to n f e m1 n1 e1 view links from_there to_the
     let empty : Ends = record { first = NONE; last = NONE } in
     let is_from : f ≡ ends_at ends from = get_or_read ends from f (subst (λ k. from < k) links.one_each a_from) read_from empty in
     let is_to : e ≡ ends_at ends to = get_or_read ends to e (subst (λ k. to < k) links.one_each a_to) read_to empty in
-    let here : IsJoined (ends_at ends to).last (ends_at ends from).first nodes (ends_at ends to) n1 e1 =
-    subst (λ v. IsJoined (ends_at ends to).last v.first nodes (ends_at ends to) n1 e1) is_from
-    (subst (λ v. IsJoined v.last f.first nodes v n1 e1) is_to (subst (λ ns. IsJoined e.last f.first ns e n1 e1) same1 join)) in
+    let here : JoinsItems (ends_at ends to).last (ends_at ends from).first nodes (ends_at ends to) n1 e1 =
+    subst (λ v. JoinsItems (ends_at ends to).last v.first nodes (ends_at ends to) n1 e1) is_from
+    (subst (λ v. JoinsItems v.last f.first nodes v n1 e1) is_to (subst (λ ns. JoinsItems e.last f.first ns e n1 e1) same1 join)) in
     let left : Holds n1 after (set (set lists from []) to (list_at (held nodes lists) to ++ list_at (held nodes lists) from)) =
     subst (λ v. Holds n1 (set (set ends from empty) to (record { first = e1.first; last = v.last }))
     (set (set lists from []) to (list_at (held nodes lists) to ++ list_at (held nodes lists) from))) (sym is_from)

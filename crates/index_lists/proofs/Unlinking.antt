@@ -9,7 +9,7 @@ use Rattle.index_lists.specs.declared.nodes.Ends.{Ends}
 use Rattle.index_lists.specs.declared.nodes.Node.{Node}
 use Rattle.index_lists.specs.declared.nodes.TheConstants.{NONE}
 use Rattle.index_lists.specs.LinkedLists.{LinkedLists, AreLists, IsLinked, list_at, with_list, without}
-use Rattle.index_lists.specs.Links.{AreLinks, HasItems, Holds, IsJoined, Neighbours, RunsTo, ends_at, held, linked_lists, neighbours, node_at, walks}
+use Rattle.index_lists.specs.Links.{AreLinks, HasItems, Holds, JoinsItems, Neighbours, RunsTo, ends_at, held, linked_lists, neighbours, node_at, walks}
 use Rattle.index_lists.proofs.ItemLists.{Once, contains_cut, once_append, once_back, once_between, once_front, once_head, once_tail, without_cut}
 use Rattle.index_lists.proofs.LawfulLists.{change_list, linked_still, list_is_there}
 use Rattle.index_lists.proofs.Runs.{contains_last, last_or, runs_cut, runs_from, runs_last, runs_on}
@@ -18,7 +18,7 @@ use Rattle.index_lists.proofs.Holding.{are_links, change_held, first_cases, item
 
 pub unlinked : (nodes : List Node) (ends : List Ends) (lists : List (List ℕ)) (l item : ℕ) (nodes1 : List Node) (e1 : Ends) (n : Node)
     → Holds nodes ends lists → Contains (list_at (held nodes lists) l) item
-    → IsJoined (node_at nodes item).previous (node_at nodes item).next nodes (ends_at ends l) nodes1 e1 → n.next ≡ item
+    → JoinsItems (node_at nodes item).previous (node_at nodes item).next nodes (ends_at ends l) nodes1 e1 → n.next ≡ item
     → Holds (set nodes1 item n) (set ends l e1) (set lists l (without item (list_at (held nodes lists) l)))
 unlinked nodes ends lists l item nodes1 e1 n holds inside to_next itself =
     let all : LinkedLists = held nodes lists in
@@ -48,9 +48,9 @@ unlinked nodes ends lists l item nodes1 e1 n holds inside to_next itself =
     let is_previous : (node_at nodes item).previous ≡ a =
     sym (previous_of_item nodes e item (inner item inside)) ∙ runs_last s NONE before item to_item in
     let is_next : (node_at nodes item).next ≡ b = sym (next_of_item nodes e item (inner item inside)) in
-    let join : IsJoined a b nodes e nodes1 e1 =
-    subst (λ v. IsJoined v b nodes e nodes1 e1) is_previous
-    (subst (λ v. IsJoined (node_at nodes item).previous v nodes e nodes1 e1) is_next to_next) in
+    let join : JoinsItems a b nodes e nodes1 e1 =
+    subst (λ v. JoinsItems v b nodes e nodes1 e1) is_previous
+    (subst (λ v. JoinsItems (node_at nodes item).previous v nodes e nodes1 e1) is_next to_next) in
     let in_before : ((x : ℕ) → Contains before x → Contains xs x) =
     λ x h. subst (λ ys. Contains ys x) (sym is) (Contains-append_left before (item ∷ rest) x h) in
     let in_rest : ((x : ℕ) → Contains rest x → Contains xs x) =
@@ -140,7 +140,7 @@ unlinked nodes ends lists l item nodes1 e1 n holds inside to_next itself =
 -- what the call leaves, from what it did step by step
 pub unlinked_links : (nodes : List Node) (ends : List Ends) (all : LinkedLists) (l item n : ℕ) (node : Node) (e : Ends) (m1 n1 : List Node)
     (e1 : Ends) (loose : Node) → linked_lists nodes ends ≡ all → AreLinks nodes ends → Contains (list_at all l) item
-    → node ≡ get_or nodes item node → e ≡ get_or ends l e → m1 ≡ nodes → length m1 ≡ n → IsJoined node.previous node.next m1 e n1 e1
+    → node ≡ get_or nodes item node → e ≡ get_or ends l e → m1 ≡ nodes → length m1 ≡ n → JoinsItems node.previous node.next m1 e n1 e1
     → loose.next ≡ item
     → AreLinks (set (refilled n n1 nodes) item loose) (set ends l e1)
     × (linked_lists (set (refilled n n1 nodes) item loose) (set ends l e1) ≡ with_list all l (without item (list_at all l)))
@@ -154,10 +154,10 @@ unlinked_links nodes ends all l item n node e m1 n1 e1 loose view links inside r
     let below : item < length nodes = links.lawful.within l item a_inside in
     let is : e ≡ ends_at ends l = get_or_read ends l e l_there read (record { first = NONE; last = NONE }) in
     let is_node : node ≡ node_at nodes item = get_or_read nodes item node below read_node (record { next = NONE; previous = NONE }) in
-    let here : IsJoined (node_at nodes item).previous (node_at nodes item).next nodes (ends_at ends l) n1 e1 =
-    subst (λ v. IsJoined v.previous v.next nodes (ends_at ends l) n1 e1) is_node
-    (subst (λ f. IsJoined node.previous node.next nodes f n1 e1) is
-    (subst (λ ns. IsJoined node.previous node.next ns e n1 e1) same1 join)) in
+    let here : JoinsItems (node_at nodes item).previous (node_at nodes item).next nodes (ends_at ends l) n1 e1 =
+    subst (λ v. JoinsItems v.previous v.next nodes (ends_at ends l) n1 e1) is_node
+    (subst (λ f. JoinsItems node.previous node.next nodes f n1 e1) is
+    (subst (λ ns. JoinsItems node.previous node.next ns e n1 e1) same1 join)) in
     are_links (set n1 item loose) (set ends l e1) (set lists l (without item (list_at (held nodes lists) l))) (length nodes) seen
     (unlinked nodes ends lists l item n1 e1 loose links a_inside here itself) (length-set n1 item loose ∙ here.as_many)
     (ap (λ ns. set ns item loose) (refilled-is n n1 nodes (join.as_many ∙ long1))))

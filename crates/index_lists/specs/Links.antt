@@ -70,7 +70,7 @@ abbrev pub AreLinks : List Node → List Ends → Type 0
 AreLinks nodes ends = Holds nodes ends (walks nodes ends)
 
 -- One item was made to follow another in the list with these ends. All other items have the same neighbours.
-pub record IsJoined (before after : ℕ) (nodes : List Node) (ends : Ends) (new_nodes : List Node) (new_ends : Ends) : Type 0 where
+pub record JoinsItems (before after : ℕ) (nodes : List Node) (ends : Ends) (new_nodes : List Node) (new_ends : Ends) : Type 0 where
   pub as_many : length new_nodes ≡ length nodes
   pub adjoin : Adjoins (neighbours new_nodes new_ends) before after
   pub next_stays : (x : ℕ) → x ≢ before → next_from new_nodes new_ends x ≡ next_from nodes ends x

@@ -92,6 +92,23 @@ impl Lists {
         };
     }
 
+    /// Appends the items of a list to a vector, in their order. Where memory is short, some were appended.
+    pub fn copy_into(&self, list: u32, items: &mut Vec<u32>) -> Result<(), Memory>
+        requires { list < length self.now.lists }
+        ensures copied { IfOk result (λ _. items.new.items ≡ items.old.items ++ list_at self.now list) }
+        ensures lawful { AreLists self.now }
+    {
+        let mut item = self.ends[list as usize].first;
+        for _ in 0..self.nodes.len() {
+            if item == NONE {
+                break;
+            }
+            items.push(item)?;
+            item = self.nodes[item as usize].next;
+        }
+        Ok(())
+    }
+
     /// The first item of a list: None exactly where the list is empty.
     pub fn first(&self, list: u32) -> Option<u32>
         requires { list < length self.now.lists }

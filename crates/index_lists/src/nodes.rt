@@ -1,5 +1,5 @@
 ghost use Rattle.std.specs.Prelude.{◌≢◌, ◌<◌, length};
-ghost use Rattle.index_lists.specs.Links.{IsJoined};
+ghost use Rattle.index_lists.specs.Links.{JoinsItems};
 
 /// No item. It stands before the first item of a list and after the last.
 pub const NONE: u32 = u32::MAX;
@@ -24,7 +24,7 @@ pub struct Ends {
 pub fn join(nodes: &mut [Node], ends: Ends, before: u32, after: u32) -> Ends
     requires before { before ≢ NONE → before < length nodes.old }
     requires after { after ≢ NONE → after < length nodes.old }
-    ensures { IsJoined before after nodes.old ends nodes.new result }
+    ensures { JoinsItems before after nodes.old ends nodes.new result }
 {
     let mut joined = ends;
     if before == NONE {

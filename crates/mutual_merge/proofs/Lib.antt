@@ -24,3 +24,10 @@ pub mod UnitePlaces
 pub mod SampleGraphs
 pub mod ClosedGraph
 pub mod LinkedStands
+mod SlotFirsts
+mod MovedEnds
+mod GatheredLinks
+pub mod SlotContacts
+pub mod GatheredSlots
+pub mod OpenSlots
+pub mod TakenSlots

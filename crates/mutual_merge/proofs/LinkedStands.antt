@@ -1,8 +1,7 @@
 -- A graph by places stands where each region has the slot of its place.
-use Rattle.std.proofs.Common.{◌⊎◌, inl, inr, ℕ, ◌<◌, ◌≤◌, true, false, List, length, refl, sym, ◌∙◌, subst, arith}
+use Rattle.std.proofs.Common.{ℕ, ◌<◌, true, false, List, length, refl, subst, arith}
 use Rattle.std.specs.Prelude.{Contains, replicate}
-use Rattle.std.proofs.lemmas.Bool.{false≢true}
-use Rattle.std.proofs.lemmas.List.{length-replicate, get_or-replicate, get_or_past}
+use Rattle.std.proofs.lemmas.List.{length-replicate, get_or-replicate}
 use Rattle.std.proofs.lemmas.List.Elements.{All-contains, Contains-get_or}
 use Rattle.agglo_model.specs.RegionGraph.{Region}
 use Rattle.mutual_merge.specs.declared.links.Link.{Link}
@@ -11,19 +10,11 @@ use Rattle.mutual_merge.specs.Slots.{IsOpen, Stands}
 use Rattle.mutual_merge.proofs.RegionPlaces.{region_place, same_place}
 use Rattle.mutual_merge.proofs.Relinked.{AreSlotLinks-from_links}
 use Rattle.mutual_merge.proofs.PairRounds.{linked_graph}
+use Rattle.mutual_merge.proofs.OpenSlots.{open_within}
 
 -- all of n slots are open, and no other
-open_below : (n k : ℕ) → IsOpen (replicate n false) k → k < n
-open_below n k is = cases (below_or_past k n)
-  where
-    below_or_past : (k n : ℕ) → (k < n) ⊎ (n ≤ k)
-    below_or_past k n = grind arith
-
-    cases : (k < n) ⊎ (n ≤ k) → k < n
-    cases (inl below) = below
-    cases (inr past) =
-        let len = length-replicate n false in
-        absurd (false≢true (sym is ∙ get_or_past (replicate n false) k true (omega arith)))
+open_of : (n k : ℕ) → IsOpen (replicate n false) k → k < n
+open_of n k is = let below = open_within (replicate n false) k is in let len = length-replicate n false in omega arith
 
 pub linked_stands : (regions : List Region) (links : List Link) → AreLinked regions links
     → Stands (graph_of regions links) regions (replicate (length regions) false) links
@@ -36,7 +27,7 @@ linked_stands regions links linked =
       slots = record {
         one_each = length-replicate n false;
         apart = λ j k open_j open_k same.
-            same_place regions j k linked.regions_ascend (open_below n j open_j) (open_below n k open_k) same;
+            same_place regions j k linked.regions_ascend (open_of n j open_j) (open_of n k open_k) same;
         links_are = AreSlotLinks-from_links n links linked.links_are;
         open_ends = λ l inside live.
             let is = All-contains (IsLink n) links l linked.links_are.each inside in

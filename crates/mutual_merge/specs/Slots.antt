@@ -1,12 +1,14 @@
 -- A region graph while merges are made in it. Each region has a slot, which is closed when its region is taken into
 -- another one; links join slots, in either order. A link from a slot to itself is gone, and says nothing.
-use Rattle.std.specs.Prelude.{◌≡◌, ◌≢◌, ℕ, ◌<◌, ◌≤◌, ◌⊎◌, ◌↔◌, ◌==◌, Bool, true, false, cond, List, All, Contains, Option, Some, None, length, sum_by, slice_index_or, slice_set, ◌/◌, bit_and, bit_or, min, max}
+use Rattle.std.specs.Prelude.{◌≡◌, ◌≢◌, ℕ, ◌<◌, ◌≤◌, ◌⊎◌, ◌↔◌, ◌==◌, ◌+◌, ◌*◌, Bool, true, false, cond, List, All, Contains, Option, Some, None, length, sum_by, slice_index_or, slice_set, ◌/◌, bit_and, bit_or, min, max}
 use Rattle.agglo_model.specs.PairOrder.{Contact, Threshold, Before, Reaches, most_edges}
 use Rattle.agglo_model.specs.Greedy.{Merge}
 use Rattle.agglo_model.specs.RegionGraph.{Region, RegionGraph, IsGraph, contact_in}
 use Rattle.mutual_merge.specs.declared.links.Link.{Link}
 use Rattle.mutual_merge.specs.Linked.{IsAtPlace, region_at, name_at, faces_at, edges_by}
 use Rattle.mutual_merge.specs.Merged.{SameContactsBy}
+use Rattle.mutual_merge.specs.Rounds.{Carries}
+use Rattle.index_lists.specs.LinkedLists.{LinkedLists, list_at}
 
 -- the slot is one of the list, and has a region
 abbrev pub IsOpen : List Bool → ℕ → Type 0
@@ -38,6 +40,10 @@ pub record IsSlotLink (n : ℕ) (l : Link) : Type 0 where
   pub a_inside : l.a < n
   pub b_inside : l.b < n
   pub touching : 0 < l.contact.count
+
+-- each contact has some edge of the grid
+abbrev pub AreTouching : List Link → Type 0
+AreTouching links = All (λ l. 0 < l.contact.count) links
 
 -- links between so many slots, which have no more edges of the grid than there are
 pub record AreSlotLinks (n : ℕ) (links : List Link) : Type 0 where
@@ -92,6 +98,14 @@ slot_after from to k = cond (k == from) to k
 abbrev pub link_after : ℕ → ℕ → Link → Link
 link_after from to l = record l { a = slot_after from to l.a; b = slot_after from to l.b }
 
+-- a link with its end moved; what is gone stays as it is
+abbrev pub moved_link : ℕ → ℕ → Link → Link
+moved_link from to l = cond (l.a == l.b) l (link_after from to l)
+
+-- the other slot of a link at k
+abbrev pub other_end : ℕ → Link → ℕ
+other_end k l = cond (l.a == k) l.b l.a
+
 -- all live links that ended at one slot end at another; what is gone stays as it was
 pub record HaveMovedEnds (from to : ℕ) (old new : List Link) : Type 0 where
   pub one_each : length new ≡ length old
@@ -130,3 +144,69 @@ IsFirstOf links items k None = (j : ℕ) → Contains items j → ¬ IsLiveAt k 
 IsFirstOf links items k (Some i) = (i < length links) × IsLiveAt k (nth_link links i)
     × ((j : ℕ) → Contains items j → IsLiveAt k (nth_link links (j / 2))
     → ¬ (Before (nth_link links (j / 2)).contact (nth_link links i).contact))
+
+-- The links of these items had their ends moved, and each other one was or was not.
+pub record HaveMovedEndsOf (items : List ℕ) (from to : ℕ) (old new : List Link) : Type 0 where
+  pub one_each : length new ≡ length old
+  pub each : (i : ℕ) → i < length old → (nth_link new i ≡ nth_link old i) ⊎ (nth_link new i ≡ moved_link from to (nth_link old i))
+  pub moved : (j : ℕ) → Contains items j → nth_link new (j / 2) ≡ moved_link from to (nth_link old (j / 2))
+
+-- the first live link at slot k of all links, by its index; none where there is no live link at it
+abbrev pub IsFirstAt : List Link → ℕ → Option ℕ → Type 0
+IsFirstAt links k None = (i : ℕ) → i < length links → ¬ IsLiveAt k (nth_link links i)
+IsFirstAt links k (Some i) = (i < length links) × IsLiveAt k (nth_link links i)
+    × ((j : ℕ) → j < length links → IsLiveAt k (nth_link links j) → ¬ (Before (nth_link links j).contact (nth_link links i).contact))
+
+-- The items of each live link stand in the lists of the slots that it joins.
+pub record AreListed (n : ℕ) (links : List Link) (lists : LinkedLists) : Type 0 where
+  pub items_are : lists.items ≡ 2 * length links
+  pub lists_are : length lists.lists ≡ n
+  pub complete : (i : ℕ) → i < length links → IsLive (nth_link links i)
+      → Contains (list_at lists (nth_link links i).a) (2 * i) × Contains (list_at lists (nth_link links i).b) (2 * i + 1)
+
+-- slots with their links in lists, and a mark for each slot
+pub record AreListedSlots (regions : List Region) (closed : List Bool) (links : List Link) (lists : LinkedLists) (marks : List ℕ) : Type 0 where
+  pub one_each : length closed ≡ length regions
+  pub links_are : AreSlotLinks (length regions) links
+  pub listed : AreListed (length regions) links lists
+  pub marked : length marks ≡ length regions
+
+-- The link of index i joins a pair that is first at both of its slots, free and above the threshold. Another link may
+-- join the same two.
+pub record IsFirstPairAt (t : Threshold) (faces : ℕ) (regions : List Region) (links : List Link) (i : ℕ) : Type 0 where
+  pub there : i < length links
+  pub live : IsLive (nth_link links i)
+  pub a_free : bit_and (faces_at regions (nth_link links i).a) faces ≡ 0
+  pub b_free : bit_and (faces_at regions (nth_link links i).b) faces ≡ 0
+  pub reaches : Reaches t (nth_link links i).contact
+  pub first : (j : ℕ) → j < length links
+      → IsLiveAt (nth_link links i).a (nth_link links j) ⊎ IsLiveAt (nth_link links i).b (nth_link links j)
+      → ¬ (Before (nth_link links j).contact (nth_link links i).contact)
+
+-- The region of the slot `from` was taken into that of `to`, and links that came to join the same two slots were added up.
+pub record HasTakenOver (from to : ℕ) (regions : List Region) (closed : List Bool) (links : List Link) (new_regions : List Region) (new_closed : List Bool) (new_links : List Link) : Type 0 where
+  pub moved : List Link
+  pub taken : IsTakenOver from to regions closed links new_regions new_closed moved
+  pub gathered : AreGathered moved new_links
+
+-- the pair of the link of index i, which alone joins its two slots, was merged
+pub record HasMergedPair (i : ℕ) (regions : List Region) (closed : List Bool) (links : List Link) (new_regions : List Region) (new_closed : List Bool) (new_links : List Link) (merge : Merge) : Type 0 where
+  pub merge_is : merge ≡ merge_at regions (nth_link links i)
+  pub single : (j : ℕ) → j < length links → Joins (nth_link links i).a (nth_link links i).b (nth_link links j) → j ≡ i
+  pub from : ℕ
+  pub to : ℕ
+  pub joins : Joins from to (nth_link links i)
+  pub taken : HasTakenOver from to regions closed links new_regions new_closed new_links
+
+-- the pair was merged, or all is as it was
+abbrev pub IsPairTried : ℕ → List Region → List Bool → List Link → List Region → List Bool → List Link → Option Merge → Type 0
+IsPairTried i regions closed links new_regions new_closed new_links None =
+    (new_regions ≡ regions) × (new_closed ≡ closed) × (new_links ≡ links)
+IsPairTried i regions closed links new_regions new_closed new_links (Some merge) =
+    HasMergedPair i regions closed links new_regions new_closed new_links merge
+
+-- The merges lead from the graph `start` to slots and links that are the graph after them.
+pub record HaveMergedInto (t : Threshold) (faces : ℕ) (start : RegionGraph) (merges : List Merge) (regions : List Region) (closed : List Bool) (links : List Link) : Type 0 where
+  pub graph : RegionGraph
+  pub carries : Carries t faces start merges graph
+  pub stands : Stands graph regions closed links

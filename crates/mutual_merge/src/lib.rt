@@ -8,12 +8,15 @@
 mod closing;
 mod firsts;
 mod links;
+mod listing;
 mod merging;
 mod pairs;
 mod parts;
 mod residue;
 mod resting;
 mod settling;
+mod slot_links;
+mod slots;
 #[cfg(test)]
 mod tests;
 mod trimming;
