@@ -20,6 +20,7 @@ pub mod UnitePlaces
 pub mod SampleGraphs
 mod SlotFirsts
 mod MovedEnds
+mod WrittenEdges
 mod GatheredLinks
 pub mod SlotContacts
 pub mod GatheredSlots
