@@ -26,6 +26,7 @@ pub mod ClosedGraph
 pub mod LinkedStands
 mod SlotFirsts
 mod MovedEnds
+mod WrittenEdges
 mod GatheredLinks
 pub mod SlotContacts
 pub mod GatheredSlots

@@ -30,10 +30,10 @@ pub record AtMoved (places : List ℕ) (l : Link) (p q : ℕ) : Type 0 where
 new_place : List ℕ → (ℕ → ℕ) → ℕ → ℕ
 new_place places name k = name (get_or places k 0)
 
-apart_test : (p q x y : ℕ) → p ≡ q → x ≢ y → are p q x y ≡ false
+pub apart_test : (p q x y : ℕ) → p ≡ q → x ≢ y → are p q x y ≡ false
 apart_test p q x y same xy = grind (arith, nat_tests)
 
-turned_test : (p q x y : ℕ) → are p q x y ≡ are q p x y
+pub turned_test : (p q x y : ℕ) → are p q x y ≡ are q p x y
 turned_test p q x y = grind (arith, nat_tests)
 
 pub pushed : (name : ℕ → ℕ) (ls : List Link) (l : Link) (past x y : ℕ)
