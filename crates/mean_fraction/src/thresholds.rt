@@ -64,13 +64,3 @@ impl Threshold {
         u128::from(c.sum()) * u128::from(self.q) >= u128::from(self.p) * u128::from(c.count())
     }
 }
-
-#[cfg(test)]
-mod tests {
-    use super::{Threshold, ZeroDenominator};
-
-    #[test]
-    fn a_zero_denominator_is_refused(rt: HostRuntime) {
-        assert_eq!(rt; Threshold::new(5, 0), Err(ZeroDenominator));
-    }
-}
