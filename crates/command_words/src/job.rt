@@ -4,7 +4,7 @@ use std::alloc::AllocError;
 use thiserror::Error;
 
 /// What the words of the command line ask for.
-#[derive(Debug, Drop)]
+#[derive(Drop)]
 pub enum Job {
     /// Write the label file of the basins of a volume. Edges below the affinity `low` are not followed.
     Basins {

@@ -15,7 +15,7 @@ const MOST_EDGES: u32 = 805_306_368;
 
 /// The contact of two regions: the sum of the affinities of its edges, how many edges they are, and
 /// the least edge number, which breaks ties. Its mean affinity is the sum over the count.
-#[derive(Clone, Copy, Debug, PartialEq, Eq)]
+#[derive(Clone, Copy)]
 pub struct Contact {
     sum: u64,
     count: u64,

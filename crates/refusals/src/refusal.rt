@@ -8,7 +8,7 @@ use merge_tree::TreeFault;
 use volume_file::VolumeFault;
 
 /// Why a run of the program ended without its answer being written.
-#[derive(Clone, Copy, Debug, PartialEq, Eq)]
+#[derive(Clone, Copy)]
 pub enum Refusal {
     /// There was not enough memory.
     Memory,
