@@ -1,4 +1,4 @@
-ghost use Rattle.std.specs.Prelude.{◌≡◌, IfOk, true};
+ghost use Rattle.std.specs.Prelude.{◌≡◌, ◌≤◌, IfOk, true};
 ghost use Rattle.seg_io.specs.InMemory.{desk_state, new_memory};
 
 mod desks;
@@ -31,15 +31,29 @@ fn file(alloc: Global, words: &str) -> Result<Vec<u8>, Fail> {
     Ok(bytes)
 }
 
+/// A new desk with room for so many bytes on each port, which gives and takes so many bytes at most a call. The call
+/// of this kind and number fails.
+fn failing(
+    alloc: Global,
+    room: usize,
+    most: usize,
+    call: (CallKind, u64),
+) -> Result<Box<MemoryDesk>, Fail>
+    requires { 1 ≤ most }
+{
+    let mut desk = boxed(alloc, room)?;
+    desk.fail_call(call.0, call.1)?;
+    desk.at_most(most);
+    Ok(desk)
+}
+
 /// A desk whose input is a file of these bytes. It gives and takes seven bytes at most a call, and the read of this
 /// number fails.
-fn opened(alloc: Global, bytes: &[u8], failing: u64) -> Result<Box<MemoryDesk>, Fail>
+fn opened(alloc: Global, bytes: &[u8], nth: u64) -> Result<Box<MemoryDesk>, Fail>
     ensures { IfOk result (λ desk. (desk_state desk.value).has_input ≡ true) }
 {
-    let mut desk = boxed(alloc, 300_000)?;
+    let mut desk = failing(alloc, 300_000, 7, (CallKind::Read, nth))?;
     desk.add_file("in", bytes)?;
-    desk.fail_call(CallKind::Read, failing)?;
-    desk.at_most(7);
     desk.open_in("in")?;
     Ok(desk)
 }

@@ -10,7 +10,7 @@ fn axes_are_judged_x_first_and_zero_before_large(rt: HostRuntime) {
 }
 
 /// The lengths of axes, and how many voxels and edge numbers they have, up to the most.
-const SIZES: [[u32; 5]; 3] = [
+const SIZES: &[[u32; 5]] = &[
     [6, 3, 2, 36, 108],
     [65_535, 4_096, 1, 268_431_360, 805_294_080],
     [16_384, 16_384, 1, 268_435_456, 805_306_368],
@@ -18,7 +18,7 @@ const SIZES: [[u32; 5]; 3] = [
 
 #[test]
 fn grids_up_to_the_largest_have_all_their_voxels(rt: HostRuntime) -> Result<(), Fail> {
-    for sizes in SIZES {
+    for &sizes in SIZES {
         let dims = Dims::new(sizes[0], sizes[1], sizes[2])?;
         assert_eq!(rt;
             [
@@ -43,7 +43,7 @@ fn a_voxel_and_its_place(rt: HostRuntime) -> Result<(), Fail> {
 
 /// Edge numbers of a grid of 6 x 3 x 2 voxels, and the voxels that each joins: none where its voxel has no
 /// predecessor on the axis, and past the last number.
-const EDGES: [(u32, Option<(u32, u32)>); 6] = [
+const EDGES: &[(u32, Option<(u32, u32)>)] = &[
     (21, Some((6, 7))),
     (22, Some((1, 7))),
     (23, None),
@@ -55,7 +55,7 @@ const EDGES: [(u32, Option<(u32, u32)>); 6] = [
 #[test]
 fn an_edge_joins_a_voxel_to_its_predecessor(rt: HostRuntime) -> Result<(), Fail> {
     let dims = Dims::new(6, 3, 2)?;
-    for (edge, ends) in EDGES {
+    for &(edge, ends) in EDGES {
         assert_eq!(rt; (edge, dims.edge_ends(edge)), (edge, ends));
     }
     Ok(())

@@ -6,7 +6,7 @@ type Numbers = (u64, u64, u32);
 
 /// Two contacts, and how the first ranks against the second; none where one of them is no contact of a volume. Equal
 /// means rank by tie. The products of the last two take more than 64 bits.
-const RANKED: [(Numbers, Numbers, Option<Ordering>); 5] = [
+const RANKED: &[(Numbers, Numbers, Option<Ordering>)] = &[
     ((1, 0, 0), (1, 1, 0), None),
     ((256, 1, 0), (1, 1, 0), None),
     ((255, 1, 0), (1, 1, 0), Some(Ordering::Greater)),
@@ -28,7 +28,7 @@ fn ranked(one: Numbers, other: Numbers) -> Option<Ordering> {
 
 #[test]
 fn contacts_rank_by_exact_means_and_then_by_ties(rt: HostRuntime) {
-    for (one, other, order) in RANKED {
+    for &(one, other, order) in RANKED {
         assert_eq!(rt; (one, ranked(one, other)), (one, order));
     }
     assert!(rt; matches!(Threshold::new(5, 0), Err(ZeroDenominator)));

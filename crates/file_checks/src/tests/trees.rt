@@ -1,5 +1,4 @@
-ghost use Rattle.std.specs.Prelude.{IfOk, All, AllPairs};
-ghost use Rattle.merge_tree.specs.Order.{DifferInRank};
+ghost use Rattle.std.specs.Prelude.{IfOk, All};
 ghost use Rattle.merge_tree.specs.Renaming.{HasSmallNames};
 
 use crate::tests::{file, opened};
@@ -11,7 +10,7 @@ use std::test::Fail;
 
 /// The words of files, and what comes of each: the names of its merges, or the fault. The third claims 200 million
 /// records, and is not refused for want of memory.
-const FILES: [(&str, &str); 6] = [
+const FILES: &[(&str, &str)] = &[
     ("AFFTRE01 4 1 1 50 1 1 1 3 50 0 1 0 6 0", "1<3 "),
     ("AFFTRE01 4 1 1 50 1 1 1 3 50 0 1 0 6", "Truncated(28)"),
     (
@@ -42,7 +41,7 @@ fn told(alloc: Global, words: &str) -> Result<String, Fail> {
     }
 }
 
-/// The names of each merge.
+/// The names of each merge, and a space after each.
 fn names(alloc: Global, merges: &[Merge]) -> Result<String, Fail> {
     let mut names = String::new(alloc);
     for merge in merges {
@@ -53,19 +52,19 @@ fn names(alloc: Global, merges: &[Merge]) -> Result<String, Fail> {
 
 #[test]
 fn tree_files_are_read(rt: HostRuntime) -> Result<(), Fail> {
-    for (words, wanted) in FILES {
+    for &(words, wanted) in FILES {
         let told = told(rt.alloc(), words)?;
         assert_eq!(rt; (words, told.as_str()), (words, wanted));
     }
     Ok(())
 }
 
-/// Three merges that are not in pair order.
-fn merges(alloc: Global) -> Result<Vec<Merge>, Fail>
-    ensures small { IfOk result (λ merges. All HasSmallNames merges.items) }
-    ensures ranks { IfOk result (λ merges. AllPairs DifferInRank merges.items) }
+/// Three merges in pair order. They are given in another: the mean of the second is the least.
+#[tactic(auto, using(crate::proofs::Small::names_stay_small))]
+fn sorted(alloc: Global) -> Result<Vec<Merge>, Fail>
+    ensures { IfOk result (λ merges. All HasSmallNames merges.items) }
 {
-    Ok([
+    let merges = [
         Merge {
             survivor: 1,
             absorbed: 3,
@@ -82,7 +81,8 @@ fn merges(alloc: Global) -> Result<Vec<Merge>, Fail>
             contact: Contact::one(100, 18),
         },
     ]
-    .to_vec(alloc)?)
+    .to_vec(alloc)?;
+    Ok(in_order(alloc, merges)?)
 }
 
 /// The names of a merge, and the sum, count and tie of its contact.
@@ -99,7 +99,7 @@ fn numbers(merge: &Merge) -> (u32, u32, u64, u64, u32) {
 
 #[test]
 fn merges_come_in_pair_order(rt: HostRuntime) -> Result<(), Fail> {
-    let sorted = in_order(rt.alloc(), merges(rt.alloc())?)?;
+    let sorted = sorted(rt.alloc())?;
     let [first, second, third] = sorted.as_slice() else {
         return Err(Fail::from("another number of merges"));
     };
@@ -122,12 +122,11 @@ fn pairs(alloc: Global) -> Result<Labels, Fail> {
 }
 
 #[test]
-#[tactic(auto, using(crate::proofs::Small::names_stay_small))]
 fn merged_names_are_followed(rt: HostRuntime) -> Result<(), Fail> {
-    let mut labels = pairs(rt.alloc())?;
+    let alloc = rt.alloc();
+    let mut labels = pairs(alloc)?;
     assert!(rt; labels.list() == [1, 1, 3, 3, 5, 5, 7, 7].as_slice());
-    let sorted = in_order(rt.alloc(), merges(rt.alloc())?)?;
-    apply(rt.alloc(), &mut labels, &sorted)?;
+    apply(alloc, &mut labels, &sorted(alloc)?)?;
     assert!(rt; labels.list() == [1; 8].as_slice());
     Ok(())
 }
