@@ -24,7 +24,7 @@ pub enum CutFault {
 /// lowest level are the leaves, at most 2^18, and those of each higher level have cells of twice the length on
 /// each axis; the last level is the first with one node, the root. Nodes are numbered level by level from the leaves,
 /// and in each level x runs fastest, then y, then z.
-#[derive(Clone, Copy, Debug, PartialEq, Eq)]
+#[derive(Clone, Copy, Debug, PartialEq)]
 pub struct Cutting {
     dims: Dims,
     leaf: Dims,
