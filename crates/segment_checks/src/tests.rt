@@ -1,7 +1,13 @@
 mod cases;
+mod graphs;
 mod plain_basins;
 mod plain_grid;
 mod plain_merging;
+mod running;
+mod segmenting;
+mod settling;
+mod sheets;
+mod telling;
 
 use cases::{CASES, Case, make_case};
 use chunk_tree::Cutting;
@@ -56,7 +62,9 @@ fn by_leaves<R: Threads + Sync>(
     case: &Case,
     chunk: [u32; 3],
 ) -> Result<Told, Fail> {
-    let cutting = Cutting::new(case.vol.dims(), chunk)?;
+    let Ok(cutting) = Cutting::new(case.vol.dims(), chunk) else {
+        return Err("no cutting".into());
+    };
     let answer = segment(rt, alloc, &case.vol, &cutting, &case.settings, &Open)?;
     let mut merges = Vec::new(alloc);
     for merge in &answer.merges {

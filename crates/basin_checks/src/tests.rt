@@ -1,0 +1,5 @@
+mod ascents;
+mod basins;
+mod cuttings;
+mod edges;
+mod sheets;

@@ -1,0 +1,102 @@
+use chunk_tree::{CutFault, Cutting, Kids};
+use seg_base::Dims;
+use std::alloc::Global;
+use std::test::Fail;
+
+/// Of each cutting the axes, the size of a leaf, and what comes of it.
+const CUTTINGS: [([u32; 3], [u32; 3], &str); 6] = [
+    ([4, 1, 1], [1, 1, 1], "levels 3 leaves 4 nodes 7 root 6"),
+    ([8, 1, 1], [6, 1, 1], "levels 2 leaves 2 nodes 3 root 2"),
+    ([8, 8, 8], [3, 3, 3], "levels 3 leaves 27 nodes 36 root 35"),
+    (
+        [64, 64, 64],
+        [1, 1, 1],
+        "levels 7 leaves 262144 nodes 299593 root 299592",
+    ),
+    // one layer more
+    ([64, 64, 65], [1, 1, 1], "266240 are too many"),
+    // a size of zero is told before too many leaves
+    ([64, 64, 65], [1, 0, 0], "zero on axis 1"),
+];
+
+/// How many levels, leaves and nodes a cutting has, and which is the root, or its fault.
+fn told(alloc: Global, axes: [u32; 3], chunk: [u32; 3]) -> Result<String, Fail> {
+    let Ok(dims) = Dims::new(axes[0], axes[1], axes[2]) else {
+        return Err("no axes of a volume".into());
+    };
+    let text = match Cutting::new(&dims, chunk) {
+        Ok(cutting) => format!(in alloc;
+            "levels {} leaves {} nodes {} root {}",
+            cutting.levels(),
+            cutting.leaves(),
+            cutting.nodes(),
+            cutting.root()
+        )?,
+        Err(CutFault::TooManyLeaves(leaves)) => format!(in alloc; "{leaves} are too many")?,
+        Err(CutFault::ChunkZero(axis)) => format!(in alloc; "zero on axis {axis}")?,
+    };
+    Ok(text)
+}
+
+#[test]
+fn cuttings_have_levels_up_to_a_root(rt: HostRuntime) -> Result<(), Fail> {
+    for (axes, chunk, wanted) in CUTTINGS {
+        let text = told(rt.alloc(), axes, chunk)?;
+        assert_eq!(rt; text.as_str(), wanted, "{axes:?} by {chunk:?}");
+    }
+    Ok(())
+}
+
+/// Of each node of two leaves and a root the level, the parent, the number of children, the artificial faces, and
+/// where the cell begins and ends on x.
+const NODES: [(u32, Option<u32>, u32, u8, [u32; 2]); 3] = [
+    (0, Some(2), 0, 2, [0, 6]),
+    (0, Some(2), 0, 1, [6, 8]),
+    (1, None, 2, 0, [0, 8]),
+];
+
+#[test]
+fn nodes_of_two_leaves_and_a_root(rt: HostRuntime) -> Result<(), Fail> {
+    let Ok(dims) = Dims::new(8, 1, 1) else {
+        return Err("no axes of a volume".into());
+    };
+    let Ok(cutting) = Cutting::new(&dims, [6, 1, 1]) else {
+        return Err("no cutting".into());
+    };
+    let nodes = cutting.nodes();
+    assert!(rt; nodes == 3);
+    for m in 0..nodes {
+        let (level, parent, children, faces, [from, to]) = NODES[m as usize];
+        assert_eq!(rt;
+            (cutting.level_of(m), cutting.parent(m)),
+            (level, parent),
+            "node {m}"
+        );
+        assert_eq!(rt;
+            (cutting.child_count(m), cutting.artificial(m)),
+            (children, faces),
+            "node {m}"
+        );
+        let cell = cutting.cell(m);
+        assert_eq!(rt; (cell.lo, cell.hi), ([from, 0, 0], [to, 1, 1]), "node {m}");
+    }
+    assert!(rt; cutting.child_count(2) == 2);
+    assert_eq!(rt; (cutting.child(2, 0), cutting.child(2, 1)), (0, 1));
+    let levels = cutting.levels();
+    assert!(rt; levels == 2);
+    assert_eq!(rt; (cutting.level_end(0), cutting.level_end(1)), (2, 3));
+    assert!(rt; cutting.dims().nx() == 8 && cutting.dims().voxels() == 8);
+    assert_eq!(rt; (cutting.leaf_of(5), cutting.leaf_of(6)), (0, 1));
+    Ok(())
+}
+
+#[test]
+fn kids_are_taken_in_order(rt: HostRuntime) {
+    let mut kids = Kids::none();
+    kids.push(5);
+    kids.push(7);
+    kids.push(9);
+    let count = kids.len();
+    let first = kids.take_first();
+    assert_eq!(rt; (count, first, kids.take_first()), (3, Some(5), Some(7)));
+}
