@@ -48,11 +48,11 @@ fn cuttings_have_levels_up_to_a_root(rt: HostRuntime) -> Result<(), Fail> {
 }
 
 /// Of each node of two leaves and a root the level, the parent, the number of children, the artificial faces, and
-/// where the cell begins and ends on x.
-const NODES: [(u32, Option<u32>, u32, u8, [u32; 2]); 3] = [
-    (0, Some(2), 0, 2, [0, 6]),
-    (0, Some(2), 0, 1, [6, 8]),
-    (1, None, 2, 0, [0, 8]),
+/// the corners of the cell.
+const NODES: [(u32, Option<u32>, u32, u8, [u32; 3], [u32; 3]); 3] = [
+    (0, Some(2), 0, 2, [0, 0, 0], [6, 1, 1]),
+    (0, Some(2), 0, 1, [6, 0, 0], [8, 1, 1]),
+    (1, None, 2, 0, [0, 0, 0], [8, 1, 1]),
 ];
 
 #[test]
@@ -63,30 +63,24 @@ fn nodes_of_two_leaves_and_a_root(rt: HostRuntime) -> Result<(), Fail> {
     let Ok(cutting) = Cutting::new(&dims, [6, 1, 1]) else {
         return Err("no cutting".into());
     };
-    let nodes = cutting.nodes();
-    assert!(rt; nodes == 3);
-    for m in 0..nodes {
-        let (level, parent, children, faces, [from, to]) = NODES[m as usize];
-        assert_eq!(rt;
-            (cutting.level_of(m), cutting.parent(m)),
-            (level, parent),
-            "node {m}"
-        );
-        assert_eq!(rt;
-            (cutting.child_count(m), cutting.artificial(m)),
-            (children, faces),
-            "node {m}"
-        );
+    assert!(rt; cutting.nodes() == 3 && cutting.levels() == 2 && cutting.dims().voxels() == 8);
+    for m in 0..cutting.nodes() {
         let cell = cutting.cell(m);
-        assert_eq!(rt; (cell.lo, cell.hi), ([from, 0, 0], [to, 1, 1]), "node {m}");
+        let node = (
+            cutting.level_of(m),
+            cutting.parent(m),
+            cutting.child_count(m),
+            cutting.artificial(m),
+            cell.lo,
+            cell.hi,
+        );
+        assert_eq!(rt; node, NODES[m as usize], "node {m}");
     }
     assert!(rt; cutting.child_count(2) == 2);
-    assert_eq!(rt; (cutting.child(2, 0), cutting.child(2, 1)), (0, 1));
-    let levels = cutting.levels();
-    assert!(rt; levels == 2);
-    assert_eq!(rt; (cutting.level_end(0), cutting.level_end(1)), (2, 3));
-    assert!(rt; cutting.dims().nx() == 8 && cutting.dims().voxels() == 8);
-    assert_eq!(rt; (cutting.leaf_of(5), cutting.leaf_of(6)), (0, 1));
+    let children = [cutting.child(2, 0), cutting.child(2, 1)];
+    let ends = [cutting.level_end(0), cutting.level_end(1)];
+    let leaves = [cutting.leaf_of(5), cutting.leaf_of(6)];
+    assert_eq!(rt; [children, ends, leaves], [[0, 1], [2, 3], [0, 1]]);
     Ok(())
 }
 

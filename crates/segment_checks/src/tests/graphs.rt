@@ -122,21 +122,21 @@ const CASES: [Case; 10] = [
 fn passed(alloc: Global, site: &Site, leaf: u32, passing: Passing) -> Result<Graph, Fail>
     ensures { IfOk result (λ graph. FitsInto site.now.grid site.now.cutting leaf graph) }
 {
-    if leaf >= site.cutting().leaves() {
+    let cutting = site.cutting();
+    if leaf >= cutting.leaves() {
         return Err("the node is no leaf".into());
     }
-    match passing {
-        Passing::AllBut(left_out) if left_out == leaf => Ok(Graph::of(
-            Vec::new(alloc),
-            Vec::new(alloc),
-        )),
-        Passing::Graphs | Passing::AllBut(_) => Ok(of_leaf(alloc, site, leaf)?),
-        Passing::Residues => {
-            let graph = of_leaf(alloc, site, leaf)?;
-            let frozen = site.cutting().artificial(leaf);
-            Ok(settle(alloc, graph, site.threshold(), frozen)?.residue)
-        }
+    if let Passing::AllBut(left_out) = passing
+        && left_out == leaf
+    {
+        return Ok(Graph::of(Vec::new(alloc), Vec::new(alloc)));
     }
+    let graph = of_leaf(alloc, site, leaf)?;
+    if let Passing::Residues = passing {
+        let frozen = cutting.artificial(leaf);
+        return Ok(settle(alloc, graph, site.threshold(), frozen)?.residue);
+    }
+    Ok(graph)
 }
 
 /// What the children of node `m`, which are leaves, pass to it.
