@@ -6,6 +6,7 @@ use agglo_model::Memory;
 use chunk_tree::Cutting;
 use face_pointers::{climb_leaf, resolve};
 use std::alloc::Global;
+use std::process::Abort;
 use std::test::Fail;
 use std::thread::Threads;
 use steepest_ascent::{Ends, whole_basins};
@@ -21,7 +22,7 @@ struct Case {
     labels: &'static [u32],
 }
 
-const CASES: [Case; 10] = [
+const CASES: &[Case] = &[
     Case {
         shows: "a basin is named by the lower voxel of its strongest edge",
         axes: [4, 1],
@@ -109,7 +110,7 @@ const CASES: [Case; 10] = [
 ];
 
 /// The lengths of the pieces on x and on y.
-const PIECES: [[u32; 2]; 7] = [[1, 1], [2, 1], [3, 1], [6, 1], [8, 8], [1, 2], [2, 2]];
+const PIECES: &[[u32; 2]] = &[[1, 1], [2, 1], [3, 1], [6, 1], [8, 8], [1, 2], [2, 2]];
 
 /// The ends of the ascents within each leaf, in order of number.
 fn climbs(alloc: Global, vol: &Volume, low: u8, cutting: &Cutting) -> Result<Vec<Ends>, Memory>
@@ -140,20 +141,20 @@ fn by_pieces<R: Threads + Sync>(
     Ok(labels.list().to_vec(alloc)?)
 }
 
+/// Stops the test unless labels are those of a case.
+fn expect_labels<R: Abort>(rt: &R, labels: &[u32], case: &Case, cut: &str) {
+    assert_eq!(rt; labels, case.labels, "{}, {cut}", case.shows);
+}
+
 #[test]
 fn basins_of_the_whole_and_from_pieces(rt: HostRuntime) -> Result<(), Fail> {
-    for case in &CASES {
+    for case in CASES {
         let vol = sheet(rt.alloc(), case.axes, case.x, case.y)?;
         let whole = whole_basins(rt.alloc(), &vol, case.low)?;
-        assert_eq!(rt; whole.list(), case.labels, "{}", case.shows);
+        expect_labels(&rt, whole.list(), case, "whole");
         for lengths in PIECES {
-            let labels = by_pieces(&rt, rt.alloc(), &vol, case.low, lengths)?;
-            assert_eq!(rt;
-                labels.as_slice(),
-                case.labels,
-                "{}, by {lengths:?}",
-                case.shows
-            );
+            let labels = by_pieces(&rt, rt.alloc(), &vol, case.low, *lengths)?;
+            expect_labels(&rt, &labels, case, "in pieces");
         }
     }
     Ok(())
