@@ -3,7 +3,7 @@ ghost use Rattle.agglo_model.specs.Cutting.{child_count, node_count};
 ghost use Rattle.parent_join.specs.Kids.{FitsInto, KidsFit, graphs_of};
 
 use super::sheets::{ARMS, FOUR_PAIRS, Sheet, volume_of};
-use super::telling::tell_graph;
+use super::telling::{expect_text, told_graph};
 use agglo_model::laws_of_nodes::basins_are_connected;
 use chunk_tree::{Cutting, Kids};
 use mean_fraction::Threshold;
@@ -35,7 +35,7 @@ struct Case {
     graph: &'static str,
 }
 
-const CASES: [Case; 10] = [
+const CASES: &[Case] = &[
     Case {
         shows: "names inside a leaf and at its face",
         sheet: FOUR_PAIRS,
@@ -157,18 +157,18 @@ fn passed_to(alloc: Global, site: &Site, m: u32, passing: Passing) -> Result<Kid
 
 /// The graph of the node of a case, where two regions are merged from a mean of 90 on.
 fn graph_of(alloc: Global, case: &Case) -> Result<String, Fail> {
-    let vol = volume_of(alloc, &case.sheet)?;
-    let labels = whole_basins(alloc, &vol, 1)?;
-    let [x, y] = case.leaf;
-    let Ok(cutting) = Cutting::new(vol.dims(), [x, y, 1]) else {
-        return Err("no cutting".into());
-    };
     let Ok(threshold) = Threshold::new(90, 1) else {
         return Err("no threshold".into());
+    };
+    let [x, y] = case.leaf;
+    let vol = volume_of(alloc, &case.sheet)?;
+    let Ok(cutting) = Cutting::new(vol.dims(), [x, y, 1]) else {
+        return Err("no cutting".into());
     };
     if case.node >= cutting.nodes() {
         return Err("no such node".into());
     }
+    let labels = whole_basins(alloc, &vol, 1)?;
     basins_are_connected();
     let site = Site::new(&vol, &labels, &cutting, threshold);
     let graph = if case.node < cutting.leaves() {
@@ -177,16 +177,14 @@ fn graph_of(alloc: Global, case: &Case) -> Result<String, Fail> {
         let kids = passed_to(alloc, &site, case.node, case.passing)?;
         join(alloc, &site, case.node, kids)?
     };
-    let mut told = String::new(alloc);
-    tell_graph(&mut told, &graph)?;
-    Ok(told)
+    told_graph(alloc, &[], &graph)
 }
 
 #[test]
 fn graphs_of_leaves_and_of_their_parents(rt: HostRuntime) -> Result<(), Fail> {
-    for case in &CASES {
+    for case in CASES {
         let graph = graph_of(rt.alloc(), case)?;
-        assert_eq!(rt; graph.as_str(), case.graph, "{}", case.shows);
+        expect_text(&rt, &graph, case.graph, case.shows);
     }
     Ok(())
 }

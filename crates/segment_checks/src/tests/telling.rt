@@ -1,31 +1,40 @@
 use mean_fraction::Contact;
 use merge_tree::Merge;
 use region_graph::Graph;
+use std::alloc::Global;
+use std::process::Abort;
 use std::test::Fail;
 
-/// Adds a line for each merge: the name that stays, the name that goes, and the contact.
-pub(crate) fn tell_merges(told: &mut String, merges: &[Merge]) -> Result<(), Fail> {
+/// Stops the test unless a text is the wanted one of a case.
+pub(crate) fn expect_text<R: Abort>(rt: &R, told: &str, wanted: &str, case: &str) {
+    assert_eq!(rt; told, wanted, "{case}");
+}
+
+/// A part for each merge: the name that stays, the name that goes, and the contact.
+pub(crate) fn told_merges(alloc: Global, merges: &[Merge]) -> Result<String, Fail> {
+    let mut told = String::new(alloc);
     for merge in merges {
         tell_pair(
-            told,
+            &mut told,
             "merge",
             merge.survivor,
             merge.absorbed,
             &merge.contact,
         )?;
     }
-    Ok(())
+    Ok(told)
 }
 
-/// Adds a part for each region, its name and its faces, and for each edge, its two names and the contact.
-pub(crate) fn tell_graph(told: &mut String, graph: &Graph) -> Result<(), Fail> {
+/// After the merges a part for each region, its name and its faces, and for each edge, its two names and the contact.
+pub(crate) fn told_graph(alloc: Global, merges: &[Merge], graph: &Graph) -> Result<String, Fail> {
+    let mut told = told_merges(alloc, merges)?;
     for region in graph.regions() {
         write!(told, "region {} {};", region.name, region.faces)?;
     }
     for edge in graph.edges() {
-        tell_pair(told, "edge", edge.a, edge.b, &edge.contact)?;
+        tell_pair(&mut told, "edge", edge.a, edge.b, &edge.contact)?;
     }
-    Ok(())
+    Ok(told)
 }
 
 /// Adds two names, and the sum, the count and the tie of their contact.

@@ -9,7 +9,7 @@ new-site-requires-clause-connected c =
 
 pub join-requires-clause-parent : goal.join-requires-clause-parent
 join-requires-clause-parent c =
-    let cutting = c.in-Ok.cutting in
+    let cutting = c.in-Ok-new.cutting in
     let m = c.args.case.now.node in
     let below : m < node_count cutting = omega (arith, c.if-case-nodes.false, c.nodes.ensures.value) in
     let past : cells_at cutting 0 ≤ m = omega (arith, c.if-case-leaves.false, c.leaves.ensures.value) in

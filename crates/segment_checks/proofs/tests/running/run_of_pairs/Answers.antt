@@ -1,4 +1,4 @@
-use Rattle.segment_checks.proofs.tests.running.a_row_in_two_lanes.Goals as goal
+use Rattle.segment_checks.proofs.tests.running.run_of_pairs.Goals as goal
 
 pub new-site-requires-clause-connected : goal.new-site-requires-clause-connected
 new-site-requires-clause-connected g c =
