@@ -21,7 +21,7 @@ use std::test::Fail;
 use std::thread::Threads;
 
 /// The sizes of the leaves: the whole volume, single voxels, slabs, and some that do not fit evenly.
-const CHUNKS: [[u32; 3]; 9] = [
+const CHUNKS: &[[u32; 3]] = &[
     [9, 9, 9],
     [1, 1, 1],
     [2, 2, 2],
@@ -84,23 +84,28 @@ fn by_leaves<R: Threads + Sync>(
     })
 }
 
+/// Stops the test unless both segmentations are the same.
+fn expect_same<R: Abort>(rt: &R, told: &Told, plain: &Told, seed: u32, chunk: &[u32; 3]) {
+    assert_eq!(rt; told.basins, plain.basins, "seed {seed} cut by {chunk:?}");
+    assert_eq!(rt;
+        told.merges.as_slice(),
+        plain.merges.as_slice(),
+        "seed {seed} cut by {chunk:?}"
+    );
+    assert_eq!(rt;
+        told.labels.as_slice(),
+        plain.labels.as_slice(),
+        "seed {seed} cut by {chunk:?}"
+    );
+}
+
 /// Compares the segmentations of a case by each cutting with the plain one.
 fn compare<R: Abort + Threads + Sync>(rt: &R, alloc: Global, seed: u32) -> Result<(), Fail> {
     let case = make_case(alloc, seed)?;
     let plain = plainly(alloc, &case)?;
     for chunk in CHUNKS {
-        let told = by_leaves(rt, alloc, &case, chunk)?;
-        assert_eq!(rt; told.basins, plain.basins, "seed {seed} cut by {chunk:?}");
-        assert_eq!(rt;
-            told.merges.as_slice(),
-            plain.merges.as_slice(),
-            "seed {seed} cut by {chunk:?}"
-        );
-        assert_eq!(rt;
-            told.labels.as_slice(),
-            plain.labels.as_slice(),
-            "seed {seed} cut by {chunk:?}"
-        );
+        let told = by_leaves(rt, alloc, &case, *chunk)?;
+        expect_same(rt, &told, &plain, seed, chunk);
     }
     Ok(())
 }
