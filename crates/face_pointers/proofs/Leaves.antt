@@ -1,9 +1,9 @@
 -- The leaves of a cutting and their cells.
-use Rattle.std.proofs.Common.{◌≡◌, ℕ, ◌<◌, sym, subst}
+use Rattle.std.proofs.Common.{ℕ, ◌<◌, sym, subst}
 use Rattle.agglo_model.specs.Axes.{voxel_count}
 use Rattle.agglo_model.specs.Boxes.{IsBoxOf}
 use Rattle.agglo_model.specs.Cell.{IsInBox}
-use Rattle.agglo_model.specs.Cutting.{Chunking, cells_at, leaf_of, low_corner, high_corner}
+use Rattle.agglo_model.specs.Cutting.{cells_at, leaf_of, low_corner, high_corner}
 use Rattle.agglo_model.proofs.BoxPlaces.{IsBoxPlace, box_voxel-lt, place_of_box}
 use Rattle.face_pointers.specs.Pieces.{IsCut, Parts, leaf_grid, leaf_voxel}
 use Rattle.face_pointers.proofs.LeafBoxes.{cell_is_box, leaf_holds, leaf_is_node, leaf_of-lt}
