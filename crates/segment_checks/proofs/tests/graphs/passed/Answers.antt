@@ -1,5 +1,4 @@
-use Rattle.std.proofs.Common.{◌<◌, subst, arith}
-use Rattle.agglo_model.specs.Cutting.{cells_at}
+use Rattle.std.proofs.Common.{arith}
 use Rattle.parent_join.specs.Kids.{FitsInto}
 use Rattle.parent_join.proofs.FewEdges.{names_fit}
 use Rattle.region_graph.proofs.Layers.{leaf_is_node}
