@@ -17,4 +17,3 @@ pub mod PartedGraphs
 pub mod UnitedGraphs
 pub mod PartPlaces
 pub mod UnitePlaces
-pub mod SampleGraphs

@@ -4,6 +4,5 @@ pub mod Pairs
 pub mod Merged
 pub mod Left
 pub mod Trimmed
-pub mod Samples
 pub mod Parts
 pub mod Rounds

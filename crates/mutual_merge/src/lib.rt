@@ -13,8 +13,6 @@ mod parts;
 mod residue;
 mod resting;
 mod settling;
-#[cfg(test)]
-mod tests;
 mod trimming;
 
 pub use settling::{Settled, settle};
