@@ -1,6 +1,7 @@
 -- Worked examples: tests that compute whether a list has each property of basin labels.
 use Rattle.std.proofs.Common.{◌≡◌, ℕ, zero, suc, ◌+◌, ◌<◌, ◌⊎◌, ◌↔◌, ◌==◌, ◌&&◌, nat_lt, Bool, true, false, cond, List, [], ◌∷◌, Option, Some, None, MatchOption, refl, sym, ◌∙◌, ap, ap₂, subst, inl, inr, arith, eq-eqb, eqb-true, ltb-true, lit<, eq-or-lt_of_le}
 use Rattle.std.proofs.lemmas.Bool.Decides.{nat_tests}
+use Rattle.std.proofs.lemmas.Bool.{and_parts}
 use Rattle.agglo_model.specs.Axes.{voxel_count, lower_end, higher_end}
 use Rattle.agglo_model.specs.Grid.{Grid}
 use Rattle.agglo_model.specs.EdgeOrder.{IsBest, HasNoBest}
@@ -16,16 +17,12 @@ abbrev all_below : (ℕ → Bool) → ℕ → Bool
 all_below p zero = true
 all_below p (suc n) = p n && all_below p n
 
-both_true : (b c : Bool) → (b && c) ≡ true → (b ≡ true) × (c ≡ true)
-both_true true c t = (refl, t)
-both_true false c t = absurd (cc)
-
 all_below_at : (p : ℕ → Bool) (n v : ℕ) → all_below p n ≡ true → v < n → p v ≡ true
 all_below_at p zero v t lt = absurd (omega arith)
 all_below_at p (suc n) v t lt = pick (all_below_at p n v both.1) (eq-or-lt_of_le (omega arith))
   where
     both : (p n ≡ true) × (all_below p n ≡ true)
-    both = both_true (p n) (all_below p n) t
+    both = and_parts (p n) (all_below p n) t
 
     pick : (v < n → p v ≡ true) → (v ≡ n) ⊎ (v < n) → p v ≡ true
     pick rest (inl is) = subst (λ u. p u ≡ true) (sym is) both.0

@@ -7,6 +7,7 @@ use Rattle.std.proofs.Math.Seq.{take-add, take-append-add}
 use Rattle.agglo_model.specs.Axes.{Axes, edge_count}
 use Rattle.agglo_model.specs.Grid.{Grid}
 use Rattle.agglo_model.specs.VolumeFile.{body_flaw, Truncated as FlawTruncated, Trailing as FlawTrailing}
+use Rattle.agglo_model.proofs.VolumesBack.{no_body_flaw}
 use Rattle.seg_io.specs.Desk.{DeskState, taken, Fills, FailsAfterReading}
 use Rattle.seg_io.proofs.Bytes.{some_zeros}
 use Rattle.seg_io.proofs.States.{for_some, taken-none, taken-taken}
@@ -179,10 +180,6 @@ too_long : (a : Axes) (bytes : List ℕ) → edge_count a < length bytes → bod
 unfolding body_flaw
 too_long a bytes long = grind (arith, nat_tests)
 
-right_length : (a : Axes) (bytes : List ℕ) → length bytes ≡ edge_count a → body_flaw a bytes ≡ None
-unfolding body_flaw
-right_length a bytes size = grind (arith, nat_tests)
-
 -- some body is as short, and some is too long
 short_body : (a : Axes) (got : ℕ) → got < edge_count a → Tells (Truncated got) (body_flaw a (replicate got 0))
 short_body a got few =
@@ -268,7 +265,7 @@ exact_length (Some input) n more none there whether =
 sound_body : (o : Option (List ℕ)) (a : Axes) (n : ℕ) → n ≡ edge_count a → IfSome o (λ input. length input ≡ n)
     → IfSome o (λ input. body_flaw a input ≡ None)
 sound_body None a n e size = tt
-sound_body (Some input) a n e size = right_length a input (size ∙ e)
+sound_body (Some input) a n e size = no_body_flaw a input (size ∙ e)
 
 whole_body : (o : Option (List ℕ)) (n : ℕ) (bytes : List ℕ) → IfSome o (λ input. length input ≡ n)
     → IfSome o (λ input. bytes ≡ take n input) → IfSome o (λ input. bytes ≡ input)

@@ -1,14 +1,14 @@
 use Rattle.std.proofs.Common.{sym, subst}
 use Rattle.agglo_model.specs.RegionGraph.{IsCellGraph}
-use Rattle.region_graph.proofs.Layers.{leaf_is_node}
+use Rattle.agglo_model.proofs.WaitingCells.{leaf_below}
 use Rattle.region_graph.proofs.CellGraphs.{gathered, gathered-graph, gathered-cell}
 use Rattle.region_graph.proofs.leaf.of_leaf.Goals as goal
 
 pub names_inside-requires : goal.names_inside-requires
-names_inside-requires c = leaf_is_node c.args.site.now.cutting c.args.m c.requires
+names_inside-requires c = leaf_below c.args.site.now.cutting c.args.m c.requires
 
 pub contacts_inside-requires : goal.contacts_inside-requires
-contacts_inside-requires c = leaf_is_node c.args.site.now.cutting c.args.m c.requires
+contacts_inside-requires c = leaf_below c.args.site.now.cutting c.args.m c.requires
 
 pub of-requires-clause-graph : goal.of-requires-clause-graph
 of-requires-clause-graph c =
