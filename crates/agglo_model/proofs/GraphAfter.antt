@@ -1,7 +1,7 @@
 -- There is a graph after each merge of two regions in contact.
 use Rattle.std.proofs.Common.{◌≡◌, ◌≢◌, ◌⊎◌, inl, inr, ℕ, ◌<◌, min, max, Bool, true, false, cond, eqb, List, refl, sym, ap, ◌∙◌, subst, arith}
 use Rattle.std.specs.Prelude.{map, Contains, bit_or}
-use Rattle.std.proofs.lemmas.Bool.{eqb-true, eqb-false}
+use Rattle.std.proofs.lemmas.Bool.{eqb-true, eqb-false, cases_eq}
 use Rattle.agglo_model.specs.Greedy.{Merge}
 use Rattle.agglo_model.specs.RegionGraph.{Region, GraphEdge, RegionGraph, IsGraph}
 use Rattle.agglo_model.specs.Settling.{edge_after, edge_of, name_after, HasBothFaces, IsGraphAfter}
@@ -164,3 +164,18 @@ after_exists graph m is inside =
         contacts = λ past x y xy. listed-contacts (map (edge_after m) graph.edges) past x y xy;
       },
     )
+
+-- what a graph has after a merge another has after it, where the other had before it what the merge took up
+pub region_over : (m : Merge) (one other one_after other_after : RegionGraph) → IsGraphAfter one m one_after
+    → IsGraphAfter other m other_after → ((f : ℕ) → HasBothFaces one m f → HasBothFaces other m f) → (r : Region)
+    → (r.name ≢ m.survivor → r.name ≢ m.absorbed → Contains one.regions r → Contains other.regions r)
+    → Contains one_after.regions r → Contains other_after.regions r
+region_over m one other one_after other_after is also both r rest inside = elim (cases_eq r.name m.survivor) [
+  | inl at_s ↦
+      subst (λ x. Contains other_after.regions (record { name = x; faces = r.faces })) (sym at_s)
+      ((also.survivor r.faces).1 (both r.faces ((is.survivor r.faces).0
+      (subst (λ x. Contains one_after.regions (record { name = x; faces = r.faces })) at_s inside))))
+  | inr rs ↦
+      let was = (is.others r rs).0 inside in
+      (also.others r rs).1 (rest rs was.1 was.0, was.1)
+]

@@ -2,8 +2,7 @@
 use Rattle.std.proofs.Common.{◌≡◌, ◌≢◌, ◌⊎◌, ℕ, zero, suc, ◌+◌, ◌*◌, ◌-◌, ◌^◌, ◌<◌, ◌≤◌, ◌==◌, nat_lt, Bool, true, false, cond, get_or, inl, inr, refl, ap, sym, ◌∙◌, subst, arith}
 use Rattle.std.specs.Int.{div_ceil}
 use Rattle.std.specs.List.{range_with_len, position_or_len}
-use Rattle.std.proofs.lemmas.Bool.{cases_lt, eqb-true, lt-ltb, le-ltb, ltb-true, both_ways, eq-eqb}
-use Rattle.std.proofs.lemmas.Bool.Decides.{nat_tests}
+use Rattle.std.proofs.lemmas.Bool.{cases_lt, eqb-true, lt-ltb, le-ltb, ltb-true, both_ways, eq-eqb, ltb-false}
 use Rattle.std.proofs.lemmas.List.FromFn.{get_or-range_with_len, length-range_with_len}
 use Rattle.std.proofs.lemmas.List.Sums.{position_or_len_is, fails_before_first, passes_at_first}
 use Rattle.std.proofs.lemmas.Nat.{pow_pos}
@@ -46,9 +45,6 @@ first_passes passes n k below here =
     let le : first passes n ≤ k = first_le passes n k below here in
     subst (λ x. passes x ≡ true) (in_range n (first passes n) (omega arith))
     (passes_at_first passes (range_with_len 0 n) 0 (omega arith))
-
-le_of_false : (x y : ℕ) → nat_lt x y ≡ false → y ≤ x
-le_of_false x y t = grind (arith, nat_tests)
 
 -- ---- the three axes
 
@@ -226,7 +222,7 @@ on_level t m below = record {
 
     from_level : (k : ℕ) → level_of t m ≡ k → first_node t k ≤ m
     from_level zero is = omega arith
-    from_level (suc k) is = le_of_false m (first_node t (suc k))
+    from_level (suc k) is = ltb-false m (first_node t (suc k))
         (fails_below (λ k. nat_lt m (first_node t (suc k))) (suc (last_level t)) k
         (omega (arith, is, first_le (λ k. nat_lt m (first_node t (suc k))) (suc (last_level t)) (last_level t) (omega arith) at_last)) (omega (arith, is)))
 

@@ -15,7 +15,7 @@ pub before_total : (c d : Contact) → c.tie ≢ d.tie → Before c d ⊎ Before
 before_total c d apart = grind arith
 
 -- Fractions in three steps: s1 / c1, s2 / c2 and s3 / c3, each no less than the next.
-falls : (s1 c1 s2 c2 s3 c3 : ℕ) → 0 < c2 → s2 * c1 ≤ s1 * c2 → s3 * c2 ≤ s2 * c3
+pub falls : (s1 c1 s2 c2 s3 c3 : ℕ) → 0 < c2 → s2 * c1 ≤ s1 * c2 → s3 * c2 ≤ s2 * c3
     → s3 * c1 ≤ s1 * c3
 falls s1 c1 s2 c2 s3 c3 pos one other =
     let left = mul-le-mul_right c3 one in

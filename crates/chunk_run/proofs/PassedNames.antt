@@ -1,7 +1,6 @@
 -- The names that the nodes of a level pass on are no more than voxels.
 use Rattle.std.proofs.Common.{◌≡◌, ℕ, zero, suc, ◌+◌, ◌<◌, ◌≤◌, ◌==◌, nat_lt, Bool, true, cond, eqb, List, [], ◌∷◌, map, filter, length, get_or, count_by, sum_by, sym, ap, ◌∙◌, eqb-true, eq-eqb, arith}
 use Rattle.std.specs.Prelude.{Contains, AllPairs}
-use Rattle.std.specs.Cmp.{IsEquivalence}
 use Rattle.std.specs.List.{range_with_len, list_any, IsDistinct}
 use Rattle.std.proofs.lemmas.Bool.Decides.{nat_tests}
 use Rattle.std.proofs.lemmas.List.{get_or-map, length-map}
@@ -11,6 +10,7 @@ use Rattle.std.proofs.lemmas.List.FromFn.{length-range_with_len, get_or-range_wi
 use Rattle.std.proofs.lemmas.List.Sums.{sum_by-cons, count_by-le-length, length-filter}
 use Rattle.std.proofs.lemmas.Map.Keys.{IsDistinct-from_apart}
 use Rattle.std.proofs.lemmas.Map.Made.{length-le_from_is_member}
+use Rattle.std.proofs.lemmas.Cmp.{nat_eq_equiv}
 use Rattle.agglo_model.specs.Axes.{voxel_count}
 use Rattle.agglo_model.specs.Basins.{label_of}
 use Rattle.agglo_model.specs.Grid.{Grid}
@@ -28,18 +28,6 @@ use Rattle.chunk_run.proofs.RangeSums.{sum_end, lesser_sum}
 use Rattle.chunk_run.proofs.Numbers.{numbers_differ}
 
 -- ---- distinct names that voxels have
-
-equal_names : IsEquivalence eqb
-equal_names = record { refl = λ x. same x; symm = λ x y. either x y; congr = λ x y z is. along x y z is }
-  where
-    same : (x : ℕ) → eqb x x ≡ true
-    same x = grind (arith, nat_tests)
-
-    either : (x y : ℕ) → eqb x y ≡ eqb y x
-    either x y = grind (arith, nat_tests)
-
-    along : (x y z : ℕ) → eqb x y ≡ true → eqb x z ≡ eqb y z
-    along x y z is = grind (arith, nat_tests)
 
 -- names that ascend, each of them the label of a voxel that passes a test, are no more than such voxels
 names-le : (held : ℕ → Bool) (n : ℕ) (labels : List ℕ) (regions : List Region) → AllPairs (λ r s. r.name < s.name) regions
@@ -71,7 +59,7 @@ names-le held n labels regions ascend there =
     ∙ sym voxel.3 in
     list_any_at (eqb q) ys own.0 (label_of labels voxel.0) own.1
     (eq-eqb q (get_or ys own.0 (label_of labels voxel.0)) (name ∙ sym own.2)) in
-    let few = length-le_from_is_member equal_names xs ys distinct members in
+    let few = length-le_from_is_member nat_eq_equiv xs ys distinct members in
     let voxels : length ys ≡ count_by held (range_with_len 0 n) = length-map vs (label_of labels) ∙ length-filter held (range_with_len 0 n) in
     omega arith
 

@@ -8,7 +8,7 @@ use Rattle.agglo_model.specs.Greedy.{Merge}
 use Rattle.agglo_model.specs.RegionGraph.{Region, GraphEdge, RegionGraph, IsGraph, HasRegion, no_contact, contact_in}
 use Rattle.agglo_model.specs.Settling.{IsAt, IsFreeIn, IsReciprocalEdge, IsGraphAfter, HasBothFaces, SettlesInto, edge_after, edge_of}
 use Rattle.agglo_model.proofs.Members.{contains_head, contains_tail, contains_cases, contains_none}
-use Rattle.agglo_model.proofs.GraphAfter.{after_exists}
+use Rattle.agglo_model.proofs.GraphAfter.{after_exists, region_over}
 use Rattle.agglo_model.proofs.GraphEdges.{edge_contact, edge_counts, edge_there}
 use Rattle.agglo_model.proofs.GraphMerges.{contact_in-swap, merged-third, merged-gone, merged-others}
 use Rattle.agglo_model.proofs.GraphRounds.{Leads}
@@ -242,26 +242,12 @@ module _ (faces : ℕ) (graph aside awake : RegionGraph) (is : IsGraph graph) (p
     }
 
     region_forth : (r : Region) → ¬ (HasRegion aside r.name) → Contains next.regions r → Contains after.regions r
-    region_forth r awake_r inside = elim (cases_eq r.name m.survivor) [
-      | inl at_s ↦
-          subst (λ x. Contains after.regions (record { name = x; faces = r.faces })) (sym at_s)
-          ((after_graph.survivor r.faces).1 (both_forth r.faces ((after_awake.survivor r.faces).0
-          (subst (λ x. Contains next.regions (record { name = x; faces = r.faces })) at_s inside))))
-      | inr rs ↦
-          let was = (after_awake.others r rs).0 inside in
-          (after_graph.others r rs).1 ((parted.awake_regions r awake_r).0 was.0, was.1)
-    ]
+    region_forth r awake_r =
+        region_over m awake graph next after after_awake after_graph both_forth r (λ _ _. (parted.awake_regions r awake_r).0)
 
     region_back : (r : Region) → ¬ (HasRegion aside r.name) → Contains after.regions r → Contains next.regions r
-    region_back r awake_r inside = elim (cases_eq r.name m.survivor) [
-      | inl at_s ↦
-          subst (λ x. Contains next.regions (record { name = x; faces = r.faces })) (sym at_s)
-          ((after_awake.survivor r.faces).1 (both_back r.faces ((after_graph.survivor r.faces).0
-          (subst (λ x. Contains after.regions (record { name = x; faces = r.faces })) at_s inside))))
-      | inr rs ↦
-          let was = (after_graph.others r rs).0 inside in
-          (after_awake.others r rs).1 ((parted.awake_regions r awake_r).1 was.0, was.1)
-    ]
+    region_back r awake_r =
+        region_over m graph awake after next after_graph after_awake both_back r (λ _ _. (parted.awake_regions r awake_r).1)
 
     rest_after : (x : ℕ) → HasRegion aside x → HasRegion next x
     rest_after x at_x =

@@ -8,7 +8,7 @@ use Rattle.agglo_model.specs.Greedy.{Merge}
 use Rattle.agglo_model.specs.RegionGraph.{Region, GraphEdge, RegionGraph, IsGraph, HasRegion, no_contact, contact_in}
 use Rattle.agglo_model.specs.Settling.{IsAt, IsFreeIn, IsReciprocalEdge, IsGraphAfter, HasBothFaces, IsLeft, IsLeftOf, Settles, SettlesInto, edge_after, edge_of}
 use Rattle.agglo_model.proofs.Means.{before-reaches}
-use Rattle.agglo_model.proofs.GraphAfter.{after_exists}
+use Rattle.agglo_model.proofs.GraphAfter.{after_exists, region_over}
 use Rattle.agglo_model.proofs.GraphEdges.{edge_contact, edge_of_contact, edge_there}
 use Rattle.agglo_model.proofs.GraphFirsts.{contact_in-none}
 use Rattle.agglo_model.proofs.GraphMerges.{contact_in-swap, merged-third, merged-gone, merged-others}
@@ -224,15 +224,8 @@ module _ (t : Threshold) (faces : ℕ) (graph part : RegionGraph) (is : IsGraph 
     }
 
     regions_after : (r : Region) → Contains next.regions r → Contains after.regions r
-    regions_after r inside = elim (cases_eq r.name m.survivor) [
-      | inl at_s ↦
-          subst (λ x. Contains after.regions (record { name = x; faces = r.faces })) (sym at_s)
-          ((after_graph.survivor r.faces).1 (both_forth r.faces ((after_part.survivor r.faces).0
-          (subst (λ x. Contains next.regions (record { name = x; faces = r.faces })) at_s inside))))
-      | inr rs ↦
-          let was = (after_part.others r rs).0 inside in
-          (after_graph.others r rs).1 (trim.regions r was.0, was.1)
-    ]
+    regions_after r =
+        region_over m part graph next after after_part after_graph both_forth r (λ _ _. trim.regions r)
 
     -- an edge at a third region that reaches the threshold after the merge did so before
     reached : (past x y : ℕ) → x ≢ m.survivor → x ≢ m.absorbed → x ≢ y
@@ -290,15 +283,9 @@ module _ (t : Threshold) (faces : ℕ) (graph part : RegionGraph) (is : IsGraph 
             (subst (λ z. Reaches t (contact_in 0 after.edges z e.a)) at_b (subst (Reaches t) turned here))
 
     stay_after : (r : Region) → Contains after.regions r → IsLeft t faces after r → Contains next.regions r
-    stay_after r inside left = elim (cases_eq r.name m.survivor) [
-      | inl at_s ↦
-          subst (λ x. Contains next.regions (record { name = x; faces = r.faces })) (sym at_s)
-          ((after_part.survivor r.faces).1 (both_back r.faces ((after_graph.survivor r.faces).0
-          (subst (λ x. Contains after.regions (record { name = x; faces = r.faces })) at_s inside))))
-      | inr rs ↦
-          let was = (after_graph.others r rs).0 inside in
-          (after_part.others r rs).1 (trim.stay r was.0 (left_before rs was.1 left), was.1)
-    ]
+    stay_after r inside left =
+        region_over m graph part after next after_graph after_part both_back r
+        (λ rs rb was. trim.stay r was (left_before rs rb left)) inside
       where
         left_before : r.name ≢ m.survivor → r.name ≢ m.absorbed → IsLeft t faces after r → IsLeft t faces graph r
         left_before rs rb (inl held) = inl held

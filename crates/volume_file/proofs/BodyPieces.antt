@@ -16,7 +16,7 @@ use Rattle.volume_file.specs.declared.fault.VolumeFault.TheVariants.{ShortHeader
 use Rattle.volume_file.specs.Fault.{fault_of}
 use Rattle.volume_file.specs.Reading.{Tells, ReadsBody, FindsBadBody, FailsToReadBody}
 use Rattle.volume_file.specs.Pieces.{ReadsBytes, FindsTooFew, FailsToReadBytes, AppendsPiece, FailsToAppend, FindsMore}
-use Rattle.seg_io.proofs.InputStates.{taken-min, taken-all, fails_later, fails_sooner}
+use Rattle.seg_io.proofs.InputStates.{taken-min, taken-all, fails_later, fails_sooner, left_of}
 
 -- a piece by what it was filled with
 piece_front : (o : Option (List ℕ)) (got : ℕ) (piece before line : List ℕ) → IfSome o (λ bytes. take got piece ≡ take got bytes)
@@ -70,11 +70,6 @@ nothing_read bytes s none =
 -- the input is still open
 pub still_open : (bytes : List ℕ) (old now : DeskState) → HasRead bytes old now → old.has_input ≡ true → now.has_input ≡ true
 still_open bytes old now h open_before = ap (λ (s : DeskState). s.has_input) h.after ∙ open_before
-
--- what is left of the input after n bytes
-left_of : (n : ℕ) (old now : DeskState) (P : List ℕ → Type 0) → now ≡ taken n old → IfSome now.input P
-    → IfSome (option_map (drop n) old.input) P
-left_of n old now P e h = subst (λ (s : DeskState). IfSome s.input P) e h
 
 there_more : (o : Option (List ℕ)) (m count got k : ℕ) → got ≡ count → k ≡ m + count → IfSome o (λ input. m ≤ length input)
     → IfSome (option_map (drop m) o) (λ input. got ≡ min count (length input)) → IfSome o (λ input. k ≤ length input)
