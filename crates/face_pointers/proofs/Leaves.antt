@@ -5,14 +5,16 @@ use Rattle.agglo_model.specs.Boxes.{IsBoxOf}
 use Rattle.agglo_model.specs.Cell.{IsInBox}
 use Rattle.agglo_model.specs.Cutting.{cells_at, leaf_of, low_corner, high_corner}
 use Rattle.agglo_model.proofs.BoxPlaces.{IsBoxPlace, box_voxel-lt, place_of_box}
-use Rattle.face_pointers.specs.Pieces.{IsCut, Parts, leaf_grid, leaf_voxel}
-use Rattle.face_pointers.proofs.LeafBoxes.{cell_is_box, leaf_holds, leaf_is_node, leaf_of-lt}
+use Rattle.agglo_model.proofs.WaitingCells.{leaf_below}
+use Rattle.steepest_ascent.specs.CellEnds.{CellEnds}
+use Rattle.face_pointers.specs.Pieces.{IsCut, IsLeafClimb, Parts, leaf_grid, leaf_voxel}
+use Rattle.face_pointers.proofs.LeafBoxes.{cell_is_box, leaf_holds, leaf_of-lt}
 
 -- the cell of a leaf is a box of the volume
 pub leaf_is_box : (p : Parts) (m : ℕ) → IsCut p → m < cells_at p.cutting 0
     → IsBoxOf p.grid.axes (low_corner p.cutting m) (high_corner p.cutting m)
 leaf_is_box p m h leaf = subst (λ a. IsBoxOf a (low_corner p.cutting m) (high_corner p.cutting m)) h.axes
-    (cell_is_box p.cutting h.cutting m (leaf_is_node p.cutting m leaf))
+    (cell_is_box p.cutting h.cutting m (leaf_below p.cutting m leaf))
 
 -- each voxel has a leaf, which holds it
 pub has_leaf : (p : Parts) (v : ℕ) → IsCut p → v < voxel_count p.grid.axes → leaf_of p.cutting v < cells_at p.cutting 0

@@ -2,18 +2,13 @@
 use Rattle.std.proofs.Common.{◌≡◌, ◌⊎◌, inl, inr, ℕ, ◌<◌, ◌≤◌, Bool, true, false, ◌&&◌, ◌||◌, eqb, ltb, leb, List, [], ◌∷◌, refl, sym, subst, arith}
 use Rattle.std.specs.Prelude.{Contains, AllPairs, IsTrue, map, sum_by}
 use Rattle.std.specs.List.{list_all, list_any}
-use Rattle.std.proofs.lemmas.Bool.{false≢true}
+use Rattle.std.proofs.lemmas.Bool.{false≢true, and_parts}
 use Rattle.std.proofs.lemmas.Bool.Decides.{nat_tests}
 use Rattle.std.proofs.lemmas.List.Kept.{AllPairs-cons}
 use Rattle.agglo_model.specs.PairOrder.{most_edges}
 use Rattle.agglo_model.specs.RegionGraph.{Region, GraphEdge, IsGraph, IsWithinEdges, StandsBefore}
 use Rattle.agglo_model.proofs.Members.{contains_cases, contains_head, contains_none, contains_tail, All-from_contains}
 use Rattle.segment_checks.specs.Samples.{graph_test, regions_test, edges_test, edge_test, sample_region, sample_edge}
-
-and_parts : (a b : Bool) → (a && b) ≡ true → (a ≡ true) × (b ≡ true)
-and_parts true true h = (refl, refl)
-and_parts true false h = absurd (false≢true h)
-and_parts false b h = absurd (false≢true h)
 
 list_all-each : {X : Type 0} (p : X → Bool) (xs : List X) (x : X) → list_all p xs ≡ true → Contains xs x → p x ≡ true
 list_all-each p [] x pass inside = absurd (contains_none x inside)
