@@ -6,8 +6,7 @@ use Rattle.agglo_model.specs.Cell.{IsInBox}
 use Rattle.agglo_model.specs.Cutting.{cells_at, leaf_of, low_corner, high_corner}
 use Rattle.agglo_model.proofs.BoxPlaces.{IsBoxPlace, box_voxel-lt, place_of_box}
 use Rattle.agglo_model.proofs.WaitingCells.{leaf_below}
-use Rattle.steepest_ascent.specs.CellEnds.{CellEnds}
-use Rattle.face_pointers.specs.Pieces.{IsCut, IsLeafClimb, Parts, leaf_grid, leaf_voxel}
+use Rattle.face_pointers.specs.Pieces.{IsCut, Parts, leaf_grid, leaf_voxel}
 use Rattle.face_pointers.proofs.LeafBoxes.{cell_is_box, leaf_holds, leaf_of-lt}
 
 -- the cell of a leaf is a box of the volume
