@@ -18,7 +18,7 @@ const MOST_EDGES: u32 = 805_306_368;
 #[derive(Clone, Copy)]
 pub struct Contact {
     sum: u64,
-    count: u64,
+    count: u32,
     tie: u32,
 }
 
@@ -55,7 +55,11 @@ impl Contact {
     {
         let counted = count >= 1 && count <= u64::from(MOST_EDGES);
         if counted && sum <= 255 * count && tie < MOST_EDGES {
-            Some(Contact { sum, count, tie })
+            Some(Contact {
+                sum,
+                count: count as u32,
+                tie,
+            })
         } else {
             None
         }
@@ -74,7 +78,7 @@ impl Contact {
         ensures value { result ≡ self.now.count }
         ensures limits { IsWithinLimits self.now }
     {
-        self.count
+        u64::from(self.count)
     }
 
     /// The least edge number.
