@@ -274,7 +274,7 @@ basin_name_named g low v e b = name_ends g low (λ x. basin_name g low (x - 1) �
 unfoldable pub standing : ℕ → Grid → ℕ → ℕ → ℕ
 standing top g low v = unwrap_or (option_map (λ e. height top g e + 1) (best_of g low v)) 0
 
-standing_at : (top : ℕ) (g : Grid) (low v e : ℕ) → IsBest g low v e → standing top g low v ≡ height top g e + 1
+pub standing_at : (top : ℕ) (g : Grid) (low v e : ℕ) → IsBest g low v e → standing top g low v ≡ height top g e + 1
 unfolding standing
 standing_at top g low v e b = ap (λ o. unwrap_or (option_map (λ f. height top g f + 1) o) 0) (best_of_some g low v e b)
 

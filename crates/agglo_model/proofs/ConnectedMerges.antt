@@ -8,7 +8,7 @@ use Rattle.agglo_model.specs.Contacts.{differ, are, lower_label, higher_label, b
 use Rattle.agglo_model.specs.Connected.{AreNeighbours, AreConnected}
 use Rattle.agglo_model.specs.NodeLaws.{MergesKeepConnected}
 use Rattle.agglo_model.proofs.ContactEdges.{InContact-names, InContact-tie}
-use Rattle.agglo_model.proofs.Renames.{new_name, label-renamed}
+use Rattle.agglo_model.proofs.Renames.{new_name, label-renamed, survivor_stays, absorbed_becomes}
 use Rattle.agglo_model.proofs.FirstPairs.{names_are}
 use Rattle.agglo_model.proofs.Paths.{AreJoined, joined_by, joined_then, joined_back, joined_under}
 
@@ -56,12 +56,6 @@ bridge g labels a b touching = by_names (names_are (is_edge g.axes e) (lower_lab
 
 name_becomes : (a b x y : ℕ) → x ≡ y → new_name a b x ≡ new_name a b y
 name_becomes a b x y same = λ i. new_name a b (same i)
-
-survivor_stays : (a b : ℕ) → new_name a b a ≡ a
-survivor_stays a b = grind (arith, nat_tests)
-
-absorbed_becomes : (a b : ℕ) → new_name a b b ≡ a
-absorbed_becomes a b = grind (arith, nat_tests)
 
 -- names that become one were one, or are the two that merge
 become_one : (a b x y : ℕ) → new_name a b y ≡ new_name a b x

@@ -27,7 +27,7 @@ pair_of : (i : Bool) (x y a b c d : ℕ) → ((i && differ x y) && are x y a b) 
     → ((i && differ x y) && are x y c d) ≡ true → ((c ≡ a) × (d ≡ b)) ⊎ ((c ≡ b) × (d ≡ a))
 pair_of i x y a b c d one other = grind (arith, nat_tests)
 
-swap_of : (i : Bool) (x y a b : ℕ)
+pub swap_of : (i : Bool) (x y a b : ℕ)
     → ((i && differ x y) && are x y a b) ≡ ((i && differ x y) && are x y b a)
 swap_of i x y a b = grind (arith, nat_tests)
 

@@ -13,6 +13,7 @@ use Rattle.agglo_model.proofs.ContactEdges.{between-swap, InContact-swap, InCont
 use Rattle.agglo_model.proofs.Means.{before_asym}
 use Rattle.agglo_model.proofs.Renames.{new_name, joins-renamed, merges_contacts}
 use Rattle.agglo_model.proofs.Reducible.{not_in_contact-left, not_in_contact-right}
+use Rattle.agglo_model.proofs.Cases.{name_cases}
 
 -- the two names of a reciprocal pair are each other's first partners
 pub first_partner_of_a : {g : Grid} {t : Threshold} {labels : List ℕ} {a b : ℕ} → IsMutual g t labels a b
@@ -73,10 +74,6 @@ InContact-absorbed g labels a b c ab pb touching =
 -- which of two contacts has edges, where they have some together
 pub count_cases : (m n : ℕ) → 0 < m + n → ((0 < m) × (0 < n)) ⊎ ((0 < m) × (0 < n → ⊥)) ⊎ ((0 < m → ⊥) × (0 < n))
 count_cases m n h = grind arith
-
--- a name is the one, the other, or neither
-pub name_cases : (e a b : ℕ) → (e ≡ a) ⊎ (e ≡ b) ⊎ ((e ≢ a) × (e ≢ b))
-name_cases e a b = grind arith
 
 -- what comes before the contacts of c with a and with b comes before the one that they merge into
 before-merged : (g : Grid) (labels : List ℕ) (a b c : ℕ) (x : Contact) → a ≢ b → a ≢ 0 → b ≢ 0

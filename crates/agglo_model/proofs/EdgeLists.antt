@@ -200,7 +200,7 @@ listed-ascends (e ∷ es) each =
 loop_test : (a b x y : ℕ) → eqb a b ≡ true → x ≢ y → are a b x y ≡ false
 loop_test a b x y same xy = grind (arith, nat_tests)
 
-order_test : (a b x y : ℕ) → are (min a b) (max a b) x y ≡ are a b x y
+pub order_test : (a b x y : ℕ) → are (min a b) (max a b) x y ≡ are a b x y
 order_test a b x y = grind (arith, nat_tests)
 
 listed-joint : (past x y : ℕ) (es : List GraphEdge) → x ≢ y

@@ -1,6 +1,6 @@
 -- The first contact edge of those that pass a test, by the order of the contacts that the edges belong to.
-use Rattle.std.proofs.Common.{◌≡◌, ◌≢◌, ◌⊎◌, inl, inr, ℕ, zero, suc, ◌<◌, Bool, true, false, ◌&&◌, List, refl, sym, ap, ◌∙◌, subst, arith}
-use Rattle.std.proofs.lemmas.Bool.{false≢true}
+use Rattle.std.proofs.Common.{◌≡◌, ◌⊎◌, inl, inr, ℕ, zero, suc, ◌<◌, Bool, true, false, ◌&&◌, List, refl, sym, ap, ◌∙◌, subst, arith}
+use Rattle.std.proofs.lemmas.Bool.{false≢true, cases_eq}
 use Rattle.std.proofs.lemmas.Bool.Decides.{nat_tests}
 use Rattle.agglo_model.specs.Axes.{is_edge}
 use Rattle.agglo_model.specs.Grid.{Grid}
@@ -28,9 +28,6 @@ meets_at g labels e contact =
     InContact-from_edge g labels (lower_label g labels e) (higher_label g labels e) e
     (own_names (is_edge g.axes e) (lower_label g labels e) (higher_label g labels e) contact)
 
-same_or_apart : (m n : ℕ) → (m ≡ n) ⊎ (m ≢ n)
-same_or_apart m n = grind arith
-
 -- of two contacts one comes first, or they are the same
 compared : (g : Grid) (labels : List ℕ) (e f : ℕ) → is_contact_edge g labels e ≡ true
     → is_contact_edge g labels f ≡ true
@@ -40,7 +37,7 @@ compared g labels e f one other =
     let b = higher_label g labels e in
     let c = lower_label g labels f in
     let d = higher_label g labels f in
-    elim (same_or_apart (between g labels a b).tie (between g labels c d).tie) [
+    elim (cases_eq (between g labels a b).tie (between g labels c d).tie) [
       | inl tie ↦ elim (same_tie g labels a b c d (meets_at g labels e one) (meets_at g labels f other) tie) [
         | inl (p, q) ↦ inl (inl (λ i. between g labels (sym p i) (sym q i)))
         | inr (p, q) ↦ inl (inl (between-swap g labels a b ∙ (λ i. between g labels (sym p i) (sym q i))))

@@ -9,6 +9,7 @@ use Rattle.agglo_model.specs.Greedy.{IsFirstPair, IsGreedyEnd}
 use Rattle.agglo_model.proofs.ContactEdges.{joins-edge, between-swap, InContact-names, InContact-swap, InContact-tie, same_tie}
 use Rattle.agglo_model.proofs.FirstPairs.{edge_of}
 use Rattle.agglo_model.proofs.FirstEdges.{contact_at, NotAfter, meets_at, first_below, tie_contact}
+use Rattle.agglo_model.proofs.Cases.{apart_cases}
 
 pub not_same : (a b c d : ℕ) → ((c ≡ a) × (d ≡ b)) ⊎ ((c ≡ b) × (d ≡ a)) → a < b → c < d
     → (c ≢ a) ⊎ (d ≢ b) → ⊥
@@ -36,9 +37,6 @@ first_from_edges g labels a b ab touching first = record {
       ];
 }
 
-either_below : (m n : ℕ) → m ≢ n → (m < n) ⊎ (n < m)
-either_below m n apart = grind arith
-
 -- either no names are in contact, or there is a first pair
 pub first_exists : (g : Grid) (labels : List ℕ)
     → ((a b : ℕ) → ¬ (InContact g labels a b)) ⊎ ((a : ℕ) × (b : ℕ) × IsFirstPair g labels a b)
@@ -52,7 +50,7 @@ first_exists g labels = elim (first_below g labels (is_contact_edge g labels) (�
       let x = lower_label g labels e in
       let y = higher_label g labels e in
       let meets = meets_at g labels e best.passes in
-      elim (either_below x y (InContact-names g labels x y meets).2) [
+      elim (apart_cases x y (InContact-names g labels x y meets).2) [
         | inl xy ↦ inr (x, y, first_from_edges g labels x y xy meets best.first)
         | inr yx ↦ inr (
           y,

@@ -4,7 +4,7 @@ use Rattle.std.specs.List.{list_all}
 use Rattle.std.proofs.lemmas.List.Folds.{list_all_at}
 use Rattle.std.proofs.lemmas.List.FromFn.{length-range_with_len}
 use Rattle.std.proofs.lemmas.Bool.Decides.{nat_tests}
-use Rattle.std.proofs.lemmas.Bool.{false≢true, ltb-true}
+use Rattle.std.proofs.lemmas.Bool.{false≢true, ltb-true, and_parts, or_cases}
 use Rattle.agglo_model.specs.Axes.{edge_count, is_edge}
 use Rattle.agglo_model.specs.Grid.{Grid}
 use Rattle.agglo_model.specs.PairOrder.{Contact, Before}
@@ -51,9 +51,6 @@ first_pair_test g labels a b = (ltb a b && ltb 0 (between g labels a b).count)
 abbrev pub no_contact_test : Grid → List ℕ → Bool
 no_contact_test g labels = list_all (λ e. not (is_contact_edge g labels e)) (edge_numbers g)
 
-and_of : (a b : Bool) → (a && b) ≡ true → (a ≡ true) × (b ≡ true)
-and_of a b h = (grind arith, grind arith)
-
 -- two pairs in ascending order that an edge joins both ways are one pair
 pub same_pair : (i : Bool) (x y a b c d : ℕ) → ((i && differ x y) && are x y c d) ≡ true
     → are x y a b ≡ true → a < b → c < d → (c ≢ a) ⊎ (d ≢ b) → ⊥
@@ -67,10 +64,6 @@ names_are i x y c d joined = grind (arith, nat_tests)
 pub edge_of : (i : Bool) (x y c d : ℕ) → ((i && differ x y) && are x y c d) ≡ true
     → (i && differ x y) ≡ true
 edge_of i x y c d joined = grind arith
-
-pub or_of : (a b : Bool) → (a || b) ≡ true → (a ≡ true) ⊎ (b ≡ true)
-or_of true b h = inl refl
-or_of false b h = inr h
 
 pub contact_of_names : (g : Grid) (labels : List ℕ) (x y c d : ℕ)
     → ((x ≡ c) × (y ≡ d)) ⊎ ((x ≡ d) × (y ≡ c)) → between g labels x y ≡ between g labels c d
@@ -92,7 +85,7 @@ later_at g labels a b c d e ab cd other joined pass =
       | true ↦ are x y a b || before_test (between g labels a b) (between g labels x y)
       | false ↦ true
     ]) ≡ true) contact pass in
-    elim (or_of _ _ opened) [
+    elim (or_cases _ _ opened) [
       | inl is_ab ↦ absurd (same_pair i x y a b c d joined is_ab ab cd other)
       | inr before ↦ subst (Before (between g labels a b))
           (contact_of_names g labels x y c d (names_are i x y c d joined))
@@ -103,8 +96,8 @@ later_at g labels a b c d e ab cd other joined pass =
 pub IsFirstPair-by_test : (g : Grid) (labels : List ℕ) (a b : ℕ)
     → first_pair_test g labels a b ≡ true → IsFirstPair g labels a b
 IsFirstPair-by_test g labels a b pass =
-    let split = and_of _ _ pass in
-    let front = and_of _ _ split.0 in
+    let split = and_parts _ _ pass in
+    let front = and_parts _ _ split.0 in
     let ab : a < b = ltb-true a b front.0 in
     record {
       ordered = ab;

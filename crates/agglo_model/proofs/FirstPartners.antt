@@ -1,5 +1,5 @@
 -- A name in contact with others has a first partner.
-use Rattle.std.proofs.Common.{◌≡◌, ◌≢◌, ◌⊎◌, inl, inr, ℕ, ◌<◌, ◌==◌, Bool, true, ◌&&◌, ◌||◌, List, sym, ap, ◌∙◌, subst, arith}
+use Rattle.std.proofs.Common.{◌≡◌, ◌⊎◌, inl, inr, ℕ, ◌<◌, ◌==◌, Bool, true, ◌&&◌, ◌||◌, List, sym, ap, ◌∙◌, subst, arith}
 use Rattle.std.proofs.lemmas.Bool.{false≢true}
 use Rattle.std.proofs.lemmas.Bool.Decides.{nat_tests}
 use Rattle.agglo_model.specs.Axes.{edge_count, is_edge}
@@ -8,6 +8,7 @@ use Rattle.agglo_model.specs.Contacts.{differ, are, lower_label, higher_label, i
 use Rattle.agglo_model.specs.Work.{IsFirstPartner}
 use Rattle.agglo_model.proofs.ContactEdges.{joins-edge, between-swap, InContact-names, InContact-swap, InContact-tie, same_tie}
 use Rattle.agglo_model.proofs.FirstEdges.{contact_at, NotAfter, meets_at, first_below, tie_contact}
+use Rattle.agglo_model.proofs.Cases.{not_pair}
 
 -- a contact edge with an end in the name x
 abbrev is_edge_of : Grid → List ℕ → ℕ → ℕ → Bool
@@ -29,9 +30,6 @@ tie_passes : (g : Grid) (labels : List ℕ) (x y : ℕ) → InContact g labels x
 tie_passes g labels x y touching =
     let e = (between g labels x y).tie in
     joined_at (is_edge g.axes e) (lower_label g labels e) (higher_label g labels e) x y (InContact-tie g labels x y touching)
-
-not_pair : (x y z : ℕ) → x ≢ y → z ≢ y → ((x ≡ x) × (z ≡ y)) ⊎ ((x ≡ y) × (z ≡ x)) → ⊥
-not_pair x y z xy zy same = grind arith
 
 -- a partner whose contact is the first of all edges at x is the first partner
 first_from_edges : (g : Grid) (labels : List ℕ) (x y : ℕ) → InContact g labels x y

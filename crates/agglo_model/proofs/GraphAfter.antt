@@ -1,7 +1,7 @@
 -- There is a graph after each merge of two regions in contact.
 use Rattle.std.proofs.Common.{◌≡◌, ◌≢◌, ◌⊎◌, inl, inr, ℕ, ◌<◌, min, max, Bool, true, false, cond, eqb, List, refl, sym, ap, ◌∙◌, subst, arith}
 use Rattle.std.specs.Prelude.{map, Contains, bit_or}
-use Rattle.std.proofs.lemmas.Bool.Decides.{nat_tests}
+use Rattle.std.proofs.lemmas.Bool.{eqb-true, eqb-false, cases_eq}
 use Rattle.agglo_model.specs.Greedy.{Merge}
 use Rattle.agglo_model.specs.RegionGraph.{Region, GraphEdge, RegionGraph, IsGraph}
 use Rattle.agglo_model.specs.Settling.{edge_after, edge_of, name_after, HasBothFaces, IsGraphAfter}
@@ -51,17 +51,11 @@ has_survivor graph m known =
     taken_over-survivor m.survivor m.absorbed (bit_or known.own known.taken) graph.regions
     (record { name = m.survivor; faces = known.own }) known.survivor refl (apart graph m known)
 
-test_false : (a b : ℕ) → eqb a b ≡ false → a ≢ b
-test_false a b pass = grind (arith, nat_tests)
-
-test_true : (a b : ℕ) → eqb a b ≡ true → a ≡ b
-test_true a b pass = grind (arith, nat_tests)
-
 -- the new name of a region is that of a region
 has_name : (graph : RegionGraph) (m : Merge) (known : Joins graph m) (x : ℕ) → Has graph.regions x
     → Has (next graph m known).regions (name_after m x)
 has_name graph m known x (faces, inside) =
-    step (eqb x m.absorbed) (eqb x m.survivor) (test_false x m.absorbed) (test_true x m.survivor) (test_false x m.survivor)
+    step (eqb x m.absorbed) (eqb x m.survivor) (eqb-false x m.absorbed) (eqb-true x m.survivor) (eqb-false x m.survivor)
   where
     step : (t u : Bool) → (t ≡ false → x ≢ m.absorbed) → (u ≡ true → x ≡ m.survivor) → (u ≡ false → x ≢ m.survivor)
         → Has (next graph m known).regions (cond t m.survivor x)
@@ -170,3 +164,18 @@ after_exists graph m is inside =
         contacts = λ past x y xy. listed-contacts (map (edge_after m) graph.edges) past x y xy;
       },
     )
+
+-- what a graph has after a merge another has after it, where the other had before it what the merge took up
+pub region_over : (m : Merge) (one other one_after other_after : RegionGraph) → IsGraphAfter one m one_after
+    → IsGraphAfter other m other_after → ((f : ℕ) → HasBothFaces one m f → HasBothFaces other m f) → (r : Region)
+    → (r.name ≢ m.survivor → r.name ≢ m.absorbed → Contains one.regions r → Contains other.regions r)
+    → Contains one_after.regions r → Contains other_after.regions r
+region_over m one other one_after other_after is also both r rest inside = elim (cases_eq r.name m.survivor) [
+  | inl at_s ↦
+      subst (λ x. Contains other_after.regions (record { name = x; faces = r.faces })) (sym at_s)
+      ((also.survivor r.faces).1 (both r.faces ((is.survivor r.faces).0
+      (subst (λ x. Contains one_after.regions (record { name = x; faces = r.faces })) at_s inside))))
+  | inr rs ↦
+      let was = (is.others r rs).0 inside in
+      (also.others r rs).1 (rest rs was.1 was.0, was.1)
+]

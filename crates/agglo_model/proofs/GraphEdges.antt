@@ -7,6 +7,7 @@ use Rattle.agglo_model.specs.Contacts.{are}
 use Rattle.agglo_model.specs.RegionGraph.{GraphEdge, RegionGraph, IsGraph, StandsBefore, is_between, no_contact, contact_in}
 use Rattle.agglo_model.proofs.Members.{contains_head, contains_tail, contains_cases, contains_none, all_pairs_head, all_pairs_tail}
 use Rattle.agglo_model.proofs.GraphContacts.{joint, contact_in-is, joint-none, joint-some, added-none}
+use Rattle.agglo_model.proofs.Cases.{ordered_names}
 
 -- every edge has its smaller name first
 abbrev pub HaveOrder : List GraphEdge → Type 0
@@ -74,17 +75,13 @@ edge_counts graph is past e inside =
     let some = is.touching e inside in
     omega arith
 
-names_of : (p q x y : ℕ) → are p q x y ≡ true → ((p ≡ x) × (q ≡ y)) ⊎ ((p ≡ y) × (q ≡ x))
+pub names_of : (p q x y : ℕ) → are p q x y ≡ true → ((p ≡ x) × (q ≡ y)) ⊎ ((p ≡ y) × (q ≡ x))
 names_of p q x y pass = grind (arith, nat_tests)
 
 -- what an edge between two names has as its ends
 pub between_names : (x y : ℕ) (e : GraphEdge) → is_between x y e ≡ true
     → ((e.a ≡ x) × (e.b ≡ y)) ⊎ ((e.a ≡ y) × (e.b ≡ x))
 between_names x y e pass = names_of e.a e.b x y pass
-
-ordered_names : (x y a b : ℕ) → x < y → a < b → ((a ≡ x) × (b ≡ y)) ⊎ ((a ≡ y) × (b ≡ x)) → (a ≡ x) × (b ≡ y)
-ordered_names x y a b xy ab (inl names) = names
-ordered_names x y a b xy ab (inr (p, q)) = absurd (omega arith)
 
 -- where two names are in contact, there is an edge between them
 pub edge_of_contact : (graph : RegionGraph) → IsGraph graph → (past x y : ℕ) → x < y
@@ -102,7 +99,7 @@ contact_by_pasts c d same =
     let past = c.tie + d.tie in
     sym (added-none past c (omega arith)) ∙ same past ∙ added-none past d (omega arith)
 
-same_edges : (e f : GraphEdge) → e.a ≡ f.a → e.b ≡ f.b → e.contact ≡ f.contact → e ≡ f
+pub same_edges : (e f : GraphEdge) → e.a ≡ f.a → e.b ≡ f.b → e.contact ≡ f.contact → e ≡ f
 same_edges e f a b contact = λ i. record { a = a i; b = b i; contact = contact i }
 
 -- an edge between two names, by their contact

@@ -1,5 +1,5 @@
 -- A contact that no edge at a region comes before stays one after a merge of two other regions.
-use Rattle.std.proofs.Common.{◌≡◌, ◌≢◌, ◌⊎◌, inl, inr, ℕ, ◌+◌, ◌*◌, ◌<◌, ◌≤◌, Bool, true, false, List, refl, sym, ap, sum_by, ◌∙◌, subst, arith}
+use Rattle.std.proofs.Common.{◌≡◌, ◌≢◌, ◌⊎◌, inl, inr, ℕ, ◌+◌, ◌*◌, ◌<◌, ◌≤◌, Bool, true, false, List, refl, sym, ap, sum_by, ◌∙◌, subst, eq-zero-or-pos, arith}
 use Rattle.std.specs.Prelude.{map, Contains}
 use Rattle.std.proofs.lemmas.List.Sums.{get_or-le-sum_by}
 use Rattle.agglo_model.specs.PairOrder.{Contact, Threshold, Before, added}
@@ -7,8 +7,9 @@ use Rattle.agglo_model.specs.Greedy.{Merge}
 use Rattle.agglo_model.specs.RegionGraph.{GraphEdge, RegionGraph, IsGraph, is_between, no_contact, contact_in}
 use Rattle.agglo_model.specs.Settling.{IsAt, IsFreeIn, IsReciprocalEdge, IsGraphAfter, edge_after}
 use Rattle.agglo_model.proofs.GraphContacts.{contact_in-is, joint-none, joint-count, joint-tie-le, added-none, none-added}
-use Rattle.agglo_model.proofs.GraphMerges.{contact_in-swap, merged-third, merged-gone, merged-others, name_cases}
+use Rattle.agglo_model.proofs.GraphMerges.{contact_in-swap, merged-third, merged-gone, merged-others}
 use Rattle.agglo_model.proofs.GraphEdges.{edge_contact, edge_contact-low, edge_of_contact, edge_there}
+use Rattle.agglo_model.proofs.Cases.{apart_cases, name_cases}
 
 -- no edge at x comes before the contact c
 abbrev pub IsFirstAt : RegionGraph → ℕ → Contact → Type 0
@@ -86,19 +87,13 @@ first_contact graph is past x y c low first (inr yx) some before =
     ∙ edge_contact-low graph is past e found.1 (omega arith) in
     first e found.1 (inr found.3) (subst (λ d. Before d c) same before)
 
-count_cases : (m : ℕ) → (0 < m) ⊎ (m ≡ 0)
-count_cases m = grind arith
-
-apart_cases : (x y : ℕ) → x ≢ y → (x < y) ⊎ (y < x)
-apart_cases x y xy = grind arith
-
 -- the contacts of x with two other names, added up
 first_both : (graph : RegionGraph) → IsGraph graph → (past x y z : ℕ) (c : Contact) → past_ties graph.edges ≤ past
     → IsFirstAt graph x c → x ≢ y → x ≢ z
     → 0 < (added (contact_in past graph.edges x y) (contact_in past graph.edges x z)).count
     → ¬ (Before (added (contact_in past graph.edges x y) (contact_in past graph.edges x z)) c)
 first_both graph is past x y z c low first xy xz some before =
-    by_cases (count_cases (contact_in past graph.edges x y).count) (count_cases (contact_in past graph.edges x z).count)
+    by_cases (eq-zero-or-pos (contact_in past graph.edges x y).count) (eq-zero-or-pos (contact_in past graph.edges x z).count)
   where
     p : Contact
     p = contact_in past graph.edges x y
@@ -118,19 +113,19 @@ first_both graph is past x y z c low first xy xz some before =
     other : 0 < (contact_in past graph.edges x z).count → ¬ (Before (contact_in past graph.edges x z) c)
     other some = first_contact graph is past x z c low first (apart_cases x z xz) some
 
-    by_cases : (0 < (contact_in past graph.edges x y).count) ⊎ ((contact_in past graph.edges x y).count ≡ 0)
-        → (0 < (contact_in past graph.edges x z).count) ⊎ ((contact_in past graph.edges x z).count ≡ 0) → ⊥
-    by_cases (inl some_p) (inl some_q) =
+    by_cases : ((contact_in past graph.edges x y).count ≡ 0) ⊎ (0 < (contact_in past graph.edges x y).count)
+        → ((contact_in past graph.edges x z).count ≡ 0) ⊎ (0 < (contact_in past graph.edges x z).count) → ⊥
+    by_cases (inr some_p) (inr some_q) =
         not_before-added (contact_in past graph.edges x y) (contact_in past graph.edges x z) c (one some_p) (other some_q) before
-    by_cases (inl some_p) (inr none_q) =
+    by_cases (inr some_p) (inl none_q) =
         one some_p (subst (λ d. Before d c)
         (ap (added (contact_in past graph.edges x y)) (contact_in-none graph is past x z none_q)
         ∙ added-none past (contact_in past graph.edges x y) tie_p) before)
-    by_cases (inr none_p) (inl some_q) =
+    by_cases (inl none_p) (inr some_q) =
         other some_q (subst (λ d. Before d c)
         (ap (λ d. added d (contact_in past graph.edges x z)) (contact_in-none graph is past x y none_p)
         ∙ none-added past (contact_in past graph.edges x z) tie_q) before)
-    by_cases (inr none_p) (inr none_q) = omega arith
+    by_cases (inl none_p) (inl none_q) = omega arith
 
 -- what is known of a merge and the graph after it
 pub record IsStep (graph : RegionGraph) (m : Merge) (after : RegionGraph) : Type 0 where

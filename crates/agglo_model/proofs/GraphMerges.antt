@@ -9,6 +9,7 @@ use Rattle.agglo_model.specs.RegionGraph.{GraphEdge, is_between, no_contact, con
 use Rattle.agglo_model.specs.Settling.{edge_after}
 use Rattle.agglo_model.proofs.GraphContacts.{joint, contact_in-is, joint-map, joint-agree, joint-or, joint-none}
 use Rattle.agglo_model.proofs.Renames.{new_name}
+use Rattle.agglo_model.proofs.Cases.{name_cases}
 
 swap_of : (p q x y : ℕ) → are p q x y ≡ are p q y x
 swap_of p q x y = grind (arith, nat_tests)
@@ -73,10 +74,6 @@ merged-others past m es x y xs xb ys yb =
 -- two lists of edges with the same contacts
 abbrev pub SameContacts : List GraphEdge → List GraphEdge → Type 0
 SameContacts es fs = (past x y : ℕ) → x ≢ y → contact_in past es x y ≡ contact_in past fs x y
-
--- what a name is to a merge
-pub name_cases : (x s b : ℕ) → (x ≡ s) ⊎ (x ≡ b) ⊎ ((x ≢ s) × (x ≢ b))
-name_cases x s b = grind arith
 
 -- they have the same contacts after a merge too
 after_at_survivor : (past : ℕ) (m : Merge) (es fs : List GraphEdge) (y : ℕ) → m.survivor ≢ m.absorbed

@@ -1,6 +1,7 @@
 -- Merges of reciprocal pairs that share no region, all at once: the same graph as one after another.
 use Rattle.std.proofs.Common.{◌≡◌, ◌≢◌, ◌⊎◌, inl, inr, ℕ, List, [], ◌∷◌, ◌++◌, refl, sym, ap, ◌∙◌, subst, arith}
 use Rattle.std.specs.Prelude.{◌↔◌, map, Contains, AllPairs}
+use Rattle.std.proofs.lemmas.Bool.{cases_eq}
 use Rattle.agglo_model.specs.PairOrder.{Threshold}
 use Rattle.agglo_model.specs.Greedy.{Merge}
 use Rattle.agglo_model.specs.RegionGraph.{Region, GraphEdge, RegionGraph, IsGraph}
@@ -113,9 +114,6 @@ one_merge graph m after all = record {
         let same = is_m n at_n in
         (λ e. rs (e ∙ ap (λ z. z.survivor) (sym same)), λ e. rb (e ∙ ap (λ z. z.absorbed) (sym same)))
 
-is_name : (x y : ℕ) → (x ≡ y) ⊎ (x ≢ y)
-is_name x y = grind arith
-
 -- a region of the graph after the first merge, seen from before it
 module _ (graph : RegionGraph) (m : Merge) (next : RegionGraph) (merges : List Merge) (after_m : IsGraphAfter graph m next)
     (apart : (n : Merge) → Contains merges n → ShareNone m n) where
@@ -160,7 +158,7 @@ module _ (graph : RegionGraph) (m : Merge) (next : RegionGraph) (merges : List M
   ]
 
   region_back : (r : Region) → IsRegionAfter next merges r → IsRegionAfter graph (m ∷ merges) r
-  region_back r (inl (inside, none)) = elim (is_name r.name m.survivor) [
+  region_back r (inl (inside, none)) = elim (cases_eq r.name m.survivor) [
     | inl at_s ↦
         inr (
           m,

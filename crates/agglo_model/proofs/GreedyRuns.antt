@@ -1,5 +1,5 @@
 -- From any labels there is a greedy run: each merge leaves fewer contact edges.
-use Rattle.std.proofs.Common.{◌≡◌, ◌≢◌, inl, inr, ℕ, zero, suc, ◌+◌, ◌<◌, ◌≤◌, Bool, true, false, cond, ◌&&◌, List, [], ◌∷◌, length, get_or, count_by, refl, sym, ap, ◌∙◌, arith}
+use Rattle.std.proofs.Common.{◌≡◌, ◌≢◌, inl, inr, ℕ, zero, suc, ◌+◌, ◌<◌, Bool, true, false, cond, ◌&&◌, List, [], ◌∷◌, length, get_or, count_by, refl, sym, ap, ◌∙◌, arith}
 use Rattle.std.proofs.lemmas.Bool.Decides.{nat_tests}
 use Rattle.std.proofs.lemmas.List.FromFn.{length-range_with_len, get_or-range_with_len}
 use Rattle.std.proofs.lemmas.List.Sums.{sum_by-cons}
@@ -13,20 +13,9 @@ use Rattle.agglo_model.proofs.ContactEdges.{joins-edge, InContact-names, InConta
 use Rattle.agglo_model.proofs.FirstExists.{end_or_step}
 use Rattle.agglo_model.proofs.FirstPairs.{edge_of}
 use Rattle.agglo_model.proofs.Renames.{new_name, label-renamed}
+use Rattle.agglo_model.proofs.Tests.{implied_le, count_le}
 
 -- ---- a test that passes less often
-
-test_le : (p q : Bool) → (q ≡ true → p ≡ true) → cond q 1 0 ≤ cond p 1 0
-test_le p false less = omega arith
-test_le true true less = omega arith
-test_le false true less = let none = less refl in absurd (cc)
-
-count_le : (p q : ℕ → Bool) → ((x : ℕ) → q x ≡ true → p x ≡ true) → (xs : List ℕ) → count_by q xs ≤ count_by p xs
-count_le p q less [] = omega arith
-count_le p q less (x ∷ xs) =
-    let one = sum_by-cons (λ y. cond (p y) 1 0) x xs in
-    let other = sum_by-cons (λ y. cond (q y) 1 0) x xs in
-    omega (arith, one, other, test_le (p x) (q x) (less x), count_le p q less xs)
 
 count_lt : (p q : ℕ → Bool) → ((x : ℕ) → q x ≡ true → p x ≡ true) → (xs : List ℕ) (k d : ℕ) → k < length xs
     → p (get_or xs k d) ≡ true → q (get_or xs k d) ≡ false → count_by q xs < count_by p xs
@@ -38,7 +27,7 @@ count_lt p q less (x ∷ xs) zero d below here gone =
 count_lt p q less (x ∷ xs) (suc k) d below here gone =
     let one = sum_by-cons (λ y. cond (p y) 1 0) x xs in
     let other = sum_by-cons (λ y. cond (q y) 1 0) x xs in
-    omega (arith, one, other, test_le (p x) (q x) (less x), count_lt p q less xs k d (omega arith) here gone)
+    omega (arith, one, other, implied_le (p x) (q x) (less x), count_lt p q less xs k d (omega arith) here gone)
 
 -- ---- contact edges
 

@@ -1,5 +1,5 @@
 -- The merges of a run are a lawful list: their names are in range and alive, their numbers in range.
-use Rattle.std.proofs.Common.{◌≡◌, ◌≢◌, ◌⊎◌, inl, inr, ℕ, zero, suc, ◌+◌, ◌*◌, ◌-◌, ◌<◌, ◌≤◌, Bool, true, false, cond, eqb, List, [], ◌∷◌, map, length, get_or, sum_by, count_by, sym, ◌∙◌, subst, arith}
+use Rattle.std.proofs.Common.{◌≡◌, ◌≢◌, inl, inr, ℕ, zero, suc, ◌+◌, ◌*◌, ◌-◌, ◌<◌, ◌≤◌, Bool, true, false, cond, eqb, List, [], ◌∷◌, map, length, get_or, sum_by, count_by, sym, ◌∙◌, subst, arith}
 use Rattle.std.specs.Prelude.{All, AllPairs}
 use Rattle.std.specs.List.{list_any, IsDistinct}
 use Rattle.std.proofs.lemmas.List.{get_or-map, get_or_past, length-map}
@@ -10,6 +10,7 @@ use Rattle.std.proofs.lemmas.List.Sums.{sum_by-cons, count_by-le-length}
 use Rattle.std.proofs.lemmas.Map.Keys.{IsDistinct-from_apart}
 use Rattle.std.proofs.lemmas.Map.Steps.{length-le_from_distinct_below}
 use Rattle.std.proofs.lemmas.Bool.Decides.{nat_tests}
+use Rattle.std.proofs.lemmas.Bool.{cases_lt, eqb-true}
 use Rattle.agglo_model.specs.Axes.{voxel_count, edge_count, is_edge}
 use Rattle.agglo_model.specs.Grid.{Grid, affinity}
 use Rattle.agglo_model.specs.PairOrder.{Threshold, Reaches}
@@ -20,7 +21,7 @@ use Rattle.agglo_model.specs.MergeLaws.{GreedyIsLawful}
 use Rattle.agglo_model.proofs.Totals.{total-tie}
 use Rattle.agglo_model.proofs.ContactEdges.{InContact-names, InContact-tie}
 use Rattle.agglo_model.proofs.FirstPairs.{names_are}
-use Rattle.agglo_model.proofs.Renames.{new_name, label-renamed}
+use Rattle.agglo_model.proofs.Renames.{new_name, label-renamed, not_absorbed}
 use Rattle.agglo_model.proofs.Falling.{greedy_falls}
 use Rattle.agglo_model.proofs.MutualRuns.{greedy_is_mutual}
 
@@ -57,12 +58,9 @@ Gone-renamed : (labels : List ℕ) (a b x : ℕ) → b ≢ 0 → a ≢ x → Gon
 Gone-renamed labels a b x pb ax gone v same =
     gone_of a b (get_or labels v 0) x ax (gone v) (sym (label-renamed labels a b v pb) ∙ same)
 
-absorbed_of : (a b x : ℕ) → a ≢ b → new_name a b x ≢ b
-absorbed_of a b x ab = grind (arith, nat_tests)
-
 Gone-absorbed : (labels : List ℕ) (a b : ℕ) → b ≢ 0 → a ≢ b → Gone (renamed labels a b) b
 Gone-absorbed labels a b pb ab v same =
-    absorbed_of a b (get_or labels v 0) ab (sym (label-renamed labels a b v pb) ∙ same)
+    not_absorbed a b (get_or labels v 0) ab (sym (label-renamed labels a b v pb) ∙ same)
 
 -- the names of a step
 step_names : {g : Grid} {t : Threshold} {labels : List ℕ} {m : Merge} → IsMutualStep g t labels m
@@ -150,9 +148,6 @@ total-numbers g p small some =
       edge = (total-tie g p some).0;
     }
 
-either_side : (k n : ℕ) → (k < n) ⊎ (n ≤ k)
-either_side k n = grind arith
-
 -- numbers that differ and lie from 2 to n are fewer than n
 abbrev from_two : Merge → ℕ
 from_two m = m.absorbed - 2
@@ -162,9 +157,6 @@ no_merge = record { survivor = 0; absorbed = 0; contact = record { sum = 0; coun
 
 eqb_apart : (x y : ℕ) → 1 < x → 1 < y → x ≢ y → eqb (x - 2) (y - 2) ≡ false
 eqb_apart x y px py apart = grind (arith, nat_tests)
-
-eqb_same : (x y : ℕ) → eqb x y ≡ true → x ≡ y
-eqb_same x y h = grind (arith, nat_tests)
 
 fewer : (merges : List Merge) (n : ℕ) → 0 < n → All (λ m. (1 < m.absorbed) × (m.absorbed ≤ n)) merges
     → AllPairs Keeps merges → length merges < n
@@ -185,19 +177,19 @@ fewer merges n pos range apart =
     let below : found.0 < length merges = omega (arith, len, found.2) in
     let value = at found.0 found.1 below in
     let ends = range found.0 no_merge below in
-    let same = eqb_same q found.1 found.4 in
+    let same = eqb-true q found.1 found.4 in
     omega (arith, value, ends, same, found.3) in
     let most = length-le_from_distinct_below xs (n - 1) distinct bounded in
     omega (arith, most, len)
 
 byte_at : (bytes : List ℕ) → All (λ b. b ≤ 255) bytes → (e : ℕ) → get_or bytes e 0 ≤ 255
-byte_at bytes small e = elim (either_side e (length bytes)) [
+byte_at bytes small e = elim (cases_lt e (length bytes)) [
   | inl below ↦ small e 0 below
   | inr past ↦ subst (λ x. x ≤ 255) (sym (get_or_past bytes e 0 past)) (omega arith)
 ]
 
 range_at : (labels : List ℕ) (n : ℕ) → All (λ x. x ≤ n) labels → InRange labels n
-range_at labels n small v = elim (either_side v (length labels)) [
+range_at labels n small v = elim (cases_lt v (length labels)) [
   | inl below ↦ small v 0 below
   | inr past ↦ subst (λ x. x ≤ n) (sym (get_or_past labels v 0 past)) (omega arith)
 ]

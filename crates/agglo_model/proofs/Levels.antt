@@ -2,8 +2,7 @@
 use Rattle.std.proofs.Common.{◌≡◌, ◌≢◌, ◌⊎◌, ℕ, zero, suc, ◌+◌, ◌*◌, ◌-◌, ◌^◌, ◌<◌, ◌≤◌, ◌==◌, nat_lt, Bool, true, false, cond, get_or, inl, inr, refl, ap, sym, ◌∙◌, subst, arith}
 use Rattle.std.specs.Int.{div_ceil}
 use Rattle.std.specs.List.{range_with_len, position_or_len}
-use Rattle.std.proofs.lemmas.Bool.{cases_lt}
-use Rattle.std.proofs.lemmas.Bool.Decides.{nat_tests}
+use Rattle.std.proofs.lemmas.Bool.{cases_lt, eqb-true, lt-ltb, le-ltb, ltb-true, both_ways, eq-eqb, ltb-false}
 use Rattle.std.proofs.lemmas.List.FromFn.{get_or-range_with_len, length-range_with_len}
 use Rattle.std.proofs.lemmas.List.Sums.{position_or_len_is, fails_before_first, passes_at_first}
 use Rattle.std.proofs.lemmas.Nat.{pow_pos}
@@ -34,12 +33,9 @@ fails_below passes n j below lt =
     subst (λ x. passes x ≡ false) (in_range n j below)
     (fails_before_first passes (range_with_len 0 n) j 0 lt)
 
-not_both : (b : Bool) → b ≡ true → b ≡ false → ⊥
-not_both b holds fails = cc
-
 first_le : (passes : ℕ → Bool) (n k : ℕ) → k < n → passes k ≡ true → first passes n ≤ k
 first_le passes n k below here = elim (cases_lt k (first passes n)) [
-  | inl lt ↦ absurd (not_both (passes k) here (fails_below passes n k below lt))
+  | inl lt ↦ absurd (both_ways (passes k) (fails_below passes n k below lt) here)
   | inr le ↦ le
 ]
 
@@ -49,24 +45,6 @@ first_passes passes n k below here =
     let le : first passes n ≤ k = first_le passes n k below here in
     subst (λ x. passes x ≡ true) (in_range n (first passes n) (omega arith))
     (passes_at_first passes (range_with_len 0 n) 0 (omega arith))
-
-eq_true : (x y : ℕ) → x ≡ y → (x == y) ≡ true
-eq_true x y e = grind (arith, nat_tests)
-
-eq_of_true : (x y : ℕ) → (x == y) ≡ true → x ≡ y
-eq_of_true x y t = grind (arith, nat_tests)
-
-lt_true : (x y : ℕ) → x < y → nat_lt x y ≡ true
-lt_true x y lt = grind (arith, nat_tests)
-
-lt_false : (x y : ℕ) → y ≤ x → nat_lt x y ≡ false
-lt_false x y le = grind (arith, nat_tests)
-
-lt_of_true : (x y : ℕ) → nat_lt x y ≡ true → x < y
-lt_of_true x y t = grind (arith, nat_tests)
-
-le_of_false : (x y : ℕ) → nat_lt x y ≡ false → y ≤ x
-le_of_false x y t = grind (arith, nat_tests)
 
 -- ---- the three axes
 
@@ -166,22 +144,23 @@ one_at_end t h = cells_at_one t end (λ c. cells_on_one t h end c (omega (arith,
 -- the last level has one cell
 pub cells_at-last : (t : Chunking) → IsChunking t → cells_at t (last_level t) ≡ 1
 unfolding last_level
-cells_at-last t h = eq_of_true (cells_at t (last_level t)) 1
+cells_at-last t h = eqb-true (cells_at t (last_level t)) 1
     (first_passes (λ k. cells_at t k == 1) (t.axes.nx + t.axes.ny + t.axes.nz) (t.axes.nx + t.axes.ny + t.axes.nz - 1)
-    (omega (arith, h.limits.some_x)) (eq_true (cells_at t (t.axes.nx + t.axes.ny + t.axes.nz - 1)) 1 (one_at_end t h)))
+    (omega (arith, h.limits.some_x)) (eq-eqb (cells_at t (t.axes.nx + t.axes.ny + t.axes.nz - 1)) 1 (one_at_end t h)))
 
 -- and no level below it has
 pub cells_at-below : (t : Chunking) → IsChunking t → (k : ℕ) → k < last_level t → cells_at t k ≢ 1
 unfolding last_level
-cells_at-below t h k below one = not_both (cells_at t k == 1) (eq_true (cells_at t k) 1 one)
+cells_at-below t h k below one = both_ways (cells_at t k == 1)
     (fails_below (λ k. cells_at t k == 1) (t.axes.nx + t.axes.ny + t.axes.nz) k
     (omega (
       arith,
       first_le (λ k. cells_at t k == 1) (t.axes.nx + t.axes.ny + t.axes.nz)
           (t.axes.nx + t.axes.ny + t.axes.nz - 1)
-          (omega (arith, h.limits.some_x)) (eq_true (cells_at t (t.axes.nx + t.axes.ny + t.axes.nz - 1)) 1 (one_at_end t h)),
+          (omega (arith, h.limits.some_x)) (eq-eqb (cells_at t (t.axes.nx + t.axes.ny + t.axes.nz - 1)) 1 (one_at_end t h)),
     ))
     below)
+    (eq-eqb (cells_at t k) 1 one)
 
 -- so a level with one cell, not above the last, is the last
 pub is_last_level : (t : Chunking) → IsChunking t → (k : ℕ) → k ≤ last_level t → cells_at t k ≡ 1 → k ≡ last_level t
@@ -223,8 +202,8 @@ pub record IsOnLevel (t : Chunking) (k m : ℕ) : Type 0 where
 pub level_of-is : (t : Chunking) (k m : ℕ) → IsOnLevel t k m → level_of t m ≡ k
 unfolding level_of
 level_of-is t k m on = first-is (λ k. nat_lt m (first_node t (suc k))) (suc (last_level t)) k
-    (omega (arith, on.reached)) (lt_true m (first_node t (suc k)) on.to)
-    (λ j lt. lt_false m (first_node t (suc j)) (omega (arith, on.from, first_node_le t (suc j) k (omega arith))))
+    (omega (arith, on.reached)) (lt-ltb m (first_node t (suc k)) on.to)
+    (λ j lt. le-ltb m (first_node t (suc j)) (omega (arith, on.from, first_node_le t (suc j) k (omega arith))))
 
 -- each node is on a level
 pub on_level : (t : Chunking) (m : ℕ) → m < node_count t → IsOnLevel t (level_of t m) m
@@ -232,18 +211,18 @@ unfolding level_of
 on_level t m below = record {
   reached = first_le passes (suc (last_level t)) (last_level t) (omega arith) at_last;
   from = from_level (level_of t m) refl;
-  to = lt_of_true m (first_node t (suc (level_of t m))) (first_passes passes (suc (last_level t)) (last_level t) (omega arith) at_last);
+  to = ltb-true m (first_node t (suc (level_of t m))) (first_passes passes (suc (last_level t)) (last_level t) (omega arith) at_last);
 }
   where
     passes : ℕ → Bool
     passes = λ k. nat_lt m (first_node t (suc k))
 
     at_last : nat_lt m (first_node t (suc (last_level t))) ≡ true
-    at_last = lt_true m (node_count t) below
+    at_last = lt-ltb m (node_count t) below
 
     from_level : (k : ℕ) → level_of t m ≡ k → first_node t k ≤ m
     from_level zero is = omega arith
-    from_level (suc k) is = le_of_false m (first_node t (suc k))
+    from_level (suc k) is = ltb-false m (first_node t (suc k))
         (fails_below (λ k. nat_lt m (first_node t (suc k))) (suc (last_level t)) k
         (omega (arith, is, first_le (λ k. nat_lt m (first_node t (suc k))) (suc (last_level t)) (last_level t) (omega arith) at_last)) (omega (arith, is)))
 

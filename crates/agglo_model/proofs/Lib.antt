@@ -1,3 +1,5 @@
+pub mod Cases
+pub mod Tests
 pub mod AxesLimits
 pub mod Edges
 pub mod BestEdge

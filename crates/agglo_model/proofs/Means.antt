@@ -3,6 +3,7 @@ use Rattle.std.proofs.Common.{◌≡◌, ◌≢◌, ◌⊎◌, inl, inr, ℕ, �
 use Rattle.std.proofs.Math.Nat.{mul-le-mul_right, mul-lt-mul_of_pos_right, le_of_mul-le-mul_left, lt_of_mul-lt-mul_left}
 use Rattle.agglo_model.specs.PairOrder.{Contact, Threshold, Before, Reaches, added}
 use Rattle.agglo_model.specs.MeanLaws.{AddsUp, IsStrictOrder}
+use Rattle.agglo_model.proofs.Cases.{order_cases}
 
 pub before_irrefl : (c : Contact) → ¬ (Before c c)
 before_irrefl c h = omega (arith, h)
@@ -14,7 +15,7 @@ pub before_total : (c d : Contact) → c.tie ≢ d.tie → Before c d ⊎ Before
 before_total c d apart = grind arith
 
 -- Fractions in three steps: s1 / c1, s2 / c2 and s3 / c3, each no less than the next.
-falls : (s1 c1 s2 c2 s3 c3 : ℕ) → 0 < c2 → s2 * c1 ≤ s1 * c2 → s3 * c2 ≤ s2 * c3
+pub falls : (s1 c1 s2 c2 s3 c3 : ℕ) → 0 < c2 → s2 * c1 ≤ s1 * c2 → s3 * c2 ≤ s2 * c3
     → s3 * c1 ≤ s1 * c3
 falls s1 c1 s2 c2 s3 c3 pos one other =
     let left = mul-le-mul_right c3 one in
@@ -86,9 +87,6 @@ same_rank c d e pc pd mean tie (inr (same, before)) =
     let down = falls d.sum d.count c.sum c.count e.sum e.count pc (omega (arith, mean)) (omega (arith, same)) in
     let up = falls e.sum e.count c.sum c.count d.sum d.count pc (omega (arith, same)) (omega (arith, mean)) in
     inr (omega (arith, down, up), omega arith)
-
-order_cases : (m n : ℕ) → (m < n) ⊎ (m ≡ n) ⊎ (n < m)
-order_cases m n = grind arith
 
 -- what stands between two contacts comes after the first or before the second
 pub before-between : (c d e : Contact) → 0 < c.count → 0 < d.count → 0 < e.count → Before c e

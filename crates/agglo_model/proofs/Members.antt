@@ -1,8 +1,8 @@
 -- What a list holds: its head, and what the rest holds.
-use Rattle.std.proofs.Common.{◌≡◌, ◌⊎◌, inl, inr, zero, suc, List, [], ◌∷◌, get_or, refl, ap, ◌∙◌, subst, arith}
-use Rattle.std.specs.Prelude.{Contains, All, AllPairs, map}
+use Rattle.std.proofs.Common.{◌≡◌, ◌⊎◌, inl, inr, zero, suc, Bool, true, false, true≢false, cond, List, [], ◌∷◌, get_or, refl, sym, ap, ◌∙◌, subst, arith}
+use Rattle.std.specs.Prelude.{Contains, All, AllPairs, map, filter}
 use Rattle.std.proofs.lemmas.List.{get_or-map, length-map}
-use Rattle.std.proofs.lemmas.List.Elements.{Contains-get_or}
+use Rattle.std.proofs.lemmas.List.Elements.{Contains-get_or, All-contains, All-filter, All-contains_itself, filter_passes}
 
 pub contains_head : {X : Type 0} (x : X) (xs : List X) → Contains (x ∷ xs) x
 contains_head x xs = (0, omega arith, refl)
@@ -48,3 +48,22 @@ all_pairs_head R x y xs ordered (k, below, same) = subst (R x) same (ordered 0 (
 pub all_pairs_tail : {X : Type 0} (R : X → X → Type 0) (x : X) (xs : List X) → AllPairs R (x ∷ xs)
     → AllPairs R xs
 all_pairs_tail R x xs ordered i j d before below = ordered (suc i) (suc j) d (omega arith) (omega arith)
+
+-- what passes a test stays in a list, and what is in it passes
+pub Contains-filter : {X : Type 0} (p : X → Bool) (xs : List X) (x : X) → Contains xs x → p x ≡ true → Contains (filter p xs) x
+Contains-filter p [] x inside pass = absurd (contains_none x inside)
+Contains-filter p (y ∷ xs) x inside pass =
+    step (p y) (contains_cases y x xs inside) (λ same. ap p same ∙ pass) (λ later. Contains-filter p xs x later pass)
+  where
+    step : (b : Bool) → (y ≡ x) ⊎ Contains xs x → (y ≡ x → b ≡ true) → (Contains xs x → Contains (filter p xs) x)
+        → Contains (cond b (y ∷ filter p xs) (filter p xs)) x
+    step true (inl same) passes rest = subst (Contains (y ∷ filter p xs)) same (contains_head y (filter p xs))
+    step true (inr later) passes rest = contains_tail y x (filter p xs) (rest later)
+    step false (inl same) passes rest = absurd (true≢false (sym (passes same)))
+    step false (inr later) passes rest = rest later
+
+pub Contains-unfilter : {X : Type 0} (p : X → Bool) (xs : List X) (x : X) → Contains (filter p xs) x → Contains xs x × (p x ≡ true)
+Contains-unfilter p xs x inside = (
+  All-contains (Contains xs) (filter p xs) x (All-filter p (Contains xs) xs (All-contains_itself xs)) inside,
+  All-contains (λ y. p y ≡ true) (filter p xs) x (filter_passes p xs) inside,
+)

@@ -1,6 +1,7 @@
 -- The six numbers of edges at a voxel: which of them are edges, by the voxel's place.
-use Rattle.std.proofs.Common.{◌≡◌, ℕ, ◌+◌, ◌*◌, ◌/◌, ◌%◌, ◌<◌, ◌≤◌, Bool, true, false, refl, sym, ◌∙◌, ap, subst, arith}
+use Rattle.std.proofs.Common.{◌≡◌, ℕ, ◌+◌, ◌*◌, ◌/◌, ◌%◌, ◌<◌, ◌≤◌, true, false, refl, sym, ◌∙◌, ap, subst, arith}
 use Rattle.std.proofs.lemmas.Nat.{mod-mul-add, div-mul-add}
+use Rattle.std.proofs.lemmas.Bool.{false_from_ne_true}
 use Rattle.agglo_model.specs.Axes.{Axes, IsPlace, voxel_count, voxel_at, edge_count, coordinate, is_edge}
 use Rattle.agglo_model.proofs.Edges.{is_edge_from, edge_is, edge_back, edge_on}
 use Rattle.agglo_model.proofs.Places.{voxel_at-lt, coordinate-voxel_at_x, coordinate-voxel_at_y, coordinate-voxel_at_z}
@@ -17,13 +18,9 @@ numbered a u c e lt is below some =
           (subst (λ w. 0 < coordinate a w c) (sym voxel) some);
     })
 
-not_true : (b : Bool) → (b ≡ true → ⊥) → b ≡ false
-not_true true h = absurd (h refl)
-not_true false h = refl
-
 not_numbered : (a : Axes) (u c e : ℕ) → c < 3 → e ≡ 3 * u + c → (u < voxel_count a → coordinate a u c ≡ 0)
     → is_edge a e ≡ false
-not_numbered a u c e lt is none = not_true (is_edge a e) (λ t.
+not_numbered a u c e lt is none = false_from_ne_true (is_edge a e) (λ t.
     let edge = edge_is a e t in
     let voxel : e / 3 ≡ u = omega arith in
     let axis : e % 3 ≡ c = omega arith in

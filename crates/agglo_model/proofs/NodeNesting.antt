@@ -1,6 +1,6 @@
 -- Which nodes hold one voxel: one node of each level, and the parent of each of them.
 use Rattle.std.proofs.Common.{◌≡◌, ◌≢◌, inl, inr, ℕ, suc, ◌+◌, ◌*◌, ◌/◌, ◌<◌, ◌≤◌, ◌==◌, Bool, true, false, cond, Some, None, refl, sym, ap, ◌∙◌, subst, arith}
-use Rattle.std.proofs.lemmas.Bool.{cases_lt, eq-eqb}
+use Rattle.std.proofs.lemmas.Bool.{cases_lt, eqb-false}
 use Rattle.std.proofs.Math.Nat.{div-div-eq-div-mul, pow-suc}
 use Rattle.agglo_model.specs.Axes.{voxel_at, coordinate}
 use Rattle.agglo_model.specs.Cutting.{Chunking, IsChunking, length_on, cell_length, level_grid, cells_at, last_level, first_node, node_count, root, level_of, cell_place, node_at, node_above, parent}
@@ -41,16 +41,10 @@ from_some : (b : Bool) (n p : ℕ) → cond b None (Some n) ≡ Some p → (b �
 from_some true n p is = absurd (cc)
 from_some false n p is = (refl, cc)
 
-not_equal : (m n : ℕ) → (m == n) ≡ false → m ≢ n
-not_equal m n t same = absurd (differ (m == n) t (eq-eqb m n same))
-  where
-    differ : (b : Bool) → b ≡ false → b ≡ true → ⊥
-    differ b p q = cc
-
 pub parent_is : (c : Chunking) (m p : ℕ) → parent c m ≡ Some p → IsParent c m p
 parent_is c m p is =
     let split = from_some (m == root c) (node_above c m) p is in
-    record { not_root = not_equal m (root c) split.0; above = split.1 }
+    record { not_root = eqb-false m (root c) split.0; above = split.1 }
 
 -- a parent is on the next level
 pub parent_on_level : (c : Chunking) → IsChunking c → (m p : ℕ) → m < node_count c → IsParent c m p
@@ -72,7 +66,7 @@ pub parent_below : (c : Chunking) → IsChunking c → (m p : ℕ) → m < node_
 parent_below c h m p node is = on_level-lt c (suc (level_of c m)) p (parent_on_level c h m p node is)
 
 -- the cells of the next level are twice as long
-half_of_cell : (c : Chunking) (k axis x : ℕ) → x / cell_length c (suc k) axis ≡ x / cell_length c k axis / 2
+pub half_of_cell : (c : Chunking) (k axis x : ℕ) → x / cell_length c (suc k) axis ≡ x / cell_length c k axis / 2
 half_of_cell c k axis x =
     ap (λ l. x / l) twice ∙ sym (div-div-eq-div-mul x (cell_length c k axis) 2)
   where

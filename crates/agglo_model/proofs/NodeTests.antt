@@ -2,7 +2,7 @@
 -- that there is none.
 use Rattle.std.proofs.Common.{◌≡◌, ◌⊎◌, inl, inr, ℕ, ◌*◌, ◌==◌, Bool, true, false, ◌&&◌, ◌||◌, not, ltb, leb, List, refl, sym, ap, ◌∙◌, subst, arith}
 use Rattle.std.specs.List.{list_all}
-use Rattle.std.proofs.lemmas.Bool.{and_parts, and_from, ltb-true, leb-true, le-leb, eqb-true, eq-eqb, cases_eq}
+use Rattle.std.proofs.lemmas.Bool.{and_parts, and_from, ltb-true, leb-true, le-leb, eqb-true, eq-eqb, cases_eq, or_cases}
 use Rattle.std.proofs.lemmas.Bool.Decides.{nat_tests}
 use Rattle.agglo_model.specs.Axes.{is_edge}
 use Rattle.agglo_model.specs.Grid.{Grid}
@@ -13,7 +13,7 @@ use Rattle.agglo_model.specs.Cutting.{Chunking}
 use Rattle.agglo_model.specs.Freezing.{occurs_in, touched_faces}
 use Rattle.agglo_model.specs.Work.{IsFree, IsReciprocal, IsFirstNodeStep, IsFirstPartner}
 use Rattle.agglo_model.proofs.ContactEdges.{joins-edge, InContact-tie}
-use Rattle.agglo_model.proofs.FirstPairs.{at_edge, edge_of, names_are, same_pair, or_of, contact_of_names, before_test, before_test-sound, first_pair_test, IsFirstPair-by_test}
+use Rattle.agglo_model.proofs.FirstPairs.{at_edge, edge_of, names_are, same_pair, contact_of_names, before_test, before_test-sound, first_pair_test, IsFirstPair-by_test}
 use Rattle.agglo_model.proofs.MutualRuns.{first_is_mutual}
 use Rattle.agglo_model.proofs.Diamonds.{mutual_from_partners}
 use Rattle.agglo_model.proofs.Freezing.{frozen_touches}
@@ -163,7 +163,7 @@ IsFirstPartner-by_order g labels x y pass =
           let before = before_test (between g labels x y) (between g labels p q) in
           let opened : (none || before) ≡ true =
           subst (λ v. (elim v [ true ↦ none || before | false ↦ true ]) ≡ true) (edge_of i p q x z joined) at in
-          elim (or_of none before opened) [
+          elim (or_cases none before opened) [
             | inl same ↦ absurd (apart (same_partner i p q x y z joined same))
             | inr later ↦ subst (Before (between g labels x y)) (contact_of_names g labels p q x z (names_are i p q x z joined))
                 (before_test-sound (between g labels x y) (between g labels p q) later)
@@ -222,7 +222,7 @@ IsFirstNodeStep-by_test g t c m labels a b pair pass = record {
       subst (λ v. (elim v [ true ↦ (are x y a b || not free) || before | false ↦ true ]) ≡ true)
       (edge_of i x y d h joined) at in
       let both = both_free c m labels x y d h (is_free-from c m labels d other.a_free) (is_free-from c m labels h other.b_free) ends in
-      elim (or_of (are x y a b || not free) before opened) [
+      elim (or_cases (are x y a b || not free) before opened) [
         | inl none ↦ absurd (same_pair i x y a b d h joined (first_of_two (are x y a b) free none both)
             pair.pair.ordered other.pair.ordered apart)
         | inr later ↦ subst (Before (between g labels a b)) (contact_of_names g labels x y d h ends)

@@ -1,10 +1,12 @@
 -- The regions of a graph after one of them has taken another.
-use Rattle.std.proofs.Common.{◌≡◌, ◌≢◌, ◌⊎◌, inl, inr, ℕ, ◌<◌, Bool, true, false, cond, eqb, List, [], ◌∷◌, refl, sym, ap, ◌∙◌, subst, arith}
+use Rattle.std.proofs.Common.{◌≡◌, ◌≢◌, ◌⊎◌, inl, inr, ℕ, ◌<◌, ◌==◌, Bool, true, false, cond, eqb, List, [], ◌∷◌, refl, sym, ap, ◌∙◌, subst, arith}
 use Rattle.std.specs.Prelude.{Contains, AllPairs}
-use Rattle.std.proofs.lemmas.Bool.Decides.{nat_tests}
 use Rattle.std.proofs.lemmas.List.Kept.{AllPairs-cons}
+use Rattle.std.proofs.lemmas.Bool.{eqb-true, eqb-false, eq-eqb}
+use Rattle.std.proofs.lemmas.List.Folds.{list_any_at, Any-from_list_any}
 use Rattle.agglo_model.specs.RegionGraph.{Region}
 use Rattle.agglo_model.proofs.Members.{contains_head, contains_tail, contains_cases, contains_none, all_pairs_head, all_pairs_tail, All-from_contains}
+use Rattle.agglo_model.specs.Joining.{is_named}
 
 -- regions by ascending name
 abbrev pub Ascend : List Region → Type 0
@@ -35,12 +37,6 @@ taken_over s b faces (r ∷ rs) =
     cond (eqb r.name b) (taken_over s b faces rs)
     (cond (eqb r.name s) (record { name = s; faces = faces } ∷ taken_over s b faces rs) (r ∷ taken_over s b faces rs))
 
-test_true : (a b : ℕ) → eqb a b ≡ true → a ≡ b
-test_true a b pass = grind (arith, nat_tests)
-
-test_false : (a b : ℕ) → eqb a b ≡ false → a ≢ b
-test_false a b pass = grind (arith, nat_tests)
-
 -- what a region of the new list was before
 abbrev pub Was : ℕ → ℕ → ℕ → List Region → Region → Type 0
 Was s b faces rs r = (r.name ≢ b)
@@ -57,7 +53,7 @@ pub taken_over-was : (s b faces : ℕ) (rs : List Region) (r : Region) → s ≢
 unfolding taken_over
 taken_over-was s b faces [] r sb inside = absurd (contains_none r inside)
 taken_over-was s b faces (p ∷ rs) r sb inside =
-    step (eqb p.name b) (eqb p.name s) (test_false p.name b) (test_true p.name s) (test_false p.name s)
+    step (eqb p.name b) (eqb p.name s) (eqb-false p.name b) (eqb-true p.name s) (eqb-false p.name s)
     (λ later. was_later s b faces p rs r (taken_over-was s b faces rs r sb later)) inside
   where
     step : (t u : Bool) → (t ≡ false → p.name ≢ b) → (u ≡ true → p.name ≡ s) → (u ≡ false → p.name ≢ s)
@@ -86,7 +82,7 @@ pub taken_over-others : (s b faces : ℕ) (rs : List Region) (r : Region) → Co
 unfolding taken_over
 taken_over-others s b faces [] r inside rb rs' = absurd (contains_none r inside)
 taken_over-others s b faces (p ∷ rs) r inside rb rs' =
-    step (eqb p.name b) (eqb p.name s) (test_true p.name b) (test_true p.name s) (contains_cases p r rs inside)
+    step (eqb p.name b) (eqb p.name s) (eqb-true p.name b) (eqb-true p.name s) (contains_cases p r rs inside)
     (λ later. taken_over-others s b faces rs r later rb rs')
   where
     step : (t u : Bool) → (t ≡ true → p.name ≡ b) → (u ≡ true → p.name ≡ s) → (p ≡ r) ⊎ Contains rs r
@@ -105,7 +101,7 @@ pub taken_over-survivor : (s b faces : ℕ) (rs : List Region) (r : Region) → 
 unfolding taken_over
 taken_over-survivor s b faces [] r inside name sb = absurd (contains_none r inside)
 taken_over-survivor s b faces (p ∷ rs) r inside name sb =
-    step (eqb p.name b) (eqb p.name s) (test_true p.name b) (test_false p.name s) (contains_cases p r rs inside)
+    step (eqb p.name b) (eqb p.name s) (eqb-true p.name b) (eqb-false p.name s) (contains_cases p r rs inside)
     (λ later. taken_over-survivor s b faces rs r later name sb)
   where
     own : Region
@@ -124,7 +120,7 @@ pub taken_over-ascends : (s b faces : ℕ) (rs : List Region) → s ≢ b → As
 unfolding taken_over
 taken_over-ascends s b faces [] sb ascend = ascend
 taken_over-ascends s b faces (p ∷ rs) sb ascend =
-    step (eqb p.name b) (eqb p.name s) (test_true p.name s)
+    step (eqb p.name b) (eqb p.name s) (eqb-true p.name s)
     (taken_over-ascends s b faces rs sb (all_pairs_tail (λ x y. x.name < y.name) p rs ascend))
   where
     below : (r : Region) → Contains (taken_over s b faces rs) r → p.name < r.name
@@ -141,3 +137,16 @@ taken_over-ascends s b faces (p ∷ rs) sb ascend =
     step false false at_s rest =
         AllPairs-cons (λ x y. x.name < y.name) p (taken_over s b faces rs)
         (All-from_contains (λ r. p.name < r.name) (taken_over s b faces rs) below) rest
+
+-- a list of regions has a name exactly where a region of it has it
+pub named_region : (regions : List Region) (x : ℕ) → is_named regions x ≡ true
+    → (r : Region) × Contains regions r × (r.name ≡ x)
+named_region regions x named =
+    let found = Any-from_list_any (λ (r : Region). r.name == x) regions named in
+    (found.1, (found.0, found.2, found.3), eqb-true found.1.name x found.4)
+
+pub region_named : (regions : List Region) (x : ℕ) (r : Region) → Contains regions r → r.name ≡ x
+    → is_named regions x ≡ true
+region_named regions x r (k, below, same) name =
+    list_any_at (λ (s : Region). s.name == x) regions k r below
+    (ap (λ (s : Region). s.name == x) same ∙ eq-eqb r.name x name)

@@ -16,6 +16,15 @@ new_name a b x = cond (eqb x b) a x
 zero_stays : (a b : ℕ) → b ≢ 0 → new_name a b 0 ≡ 0
 zero_stays a b pos = grind (arith, nat_tests)
 
+pub survivor_stays : (a b : ℕ) → new_name a b a ≡ a
+survivor_stays a b = grind (arith, nat_tests)
+
+pub absorbed_becomes : (a b : ℕ) → new_name a b b ≡ a
+absorbed_becomes a b = grind (arith, nat_tests)
+
+pub not_absorbed : (a b x : ℕ) → a ≢ b → new_name a b x ≢ b
+not_absorbed a b x apart = grind (arith, nat_tests)
+
 -- the label of a voxel after a rename, also past the end of the list
 pub label-renamed : (labels : List ℕ) (a b v : ℕ) → b ≢ 0
     → get_or (renamed labels a b) v 0 ≡ new_name a b (get_or labels v 0)
@@ -23,16 +32,16 @@ label-renamed labels a b v pos =
     ap (get_or (renamed labels a b) v) (sym (zero_stays a b pos)) ∙ get_or-map (new_name a b) labels v 0
 
 -- an edge joins a and c after the rename where it joined a or b to c before
-joins_of : (i : Bool) (x y a b c : ℕ) → a ≢ b → b ≢ 0 → a ≢ 0 → c ≢ a → c ≢ b
+pub joins_of : (i : Bool) (x y a b c : ℕ) → a ≢ b → b ≢ 0 → a ≢ 0 → c ≢ a → c ≢ b
     → ((i && differ (new_name a b x) (new_name a b y)) && are (new_name a b x) (new_name a b y) a c)
     ≡ (((i && differ x y) && are x y a c) || ((i && differ x y) && are x y b c))
 joins_of i x y a b c ab pb pa ca cb = grind (arith, nat_tests)
 
-apart_of : (i : Bool) (x y a b c : ℕ) → a ≢ b → c ≢ a → c ≢ b
+pub apart_of : (i : Bool) (x y a b c : ℕ) → a ≢ b → c ≢ a → c ≢ b
     → (((i && differ x y) && are x y a c) && ((i && differ x y) && are x y b c)) ≡ false
 apart_of i x y a b c ab ca cb = grind (arith, nat_tests)
 
-others_of : (i : Bool) (x y a b c d : ℕ) → b ≢ 0 → c ≢ a → c ≢ b → d ≢ a → d ≢ b
+pub others_of : (i : Bool) (x y a b c d : ℕ) → b ≢ 0 → c ≢ a → c ≢ b → d ≢ a → d ≢ b
     → ((i && differ (new_name a b x) (new_name a b y)) && are (new_name a b x) (new_name a b y) c d)
     ≡ ((i && differ x y) && are x y c d)
 others_of i x y a b c d pb ca cb da db = grind (arith, nat_tests)

@@ -11,9 +11,10 @@ use Rattle.agglo_model.proofs.ContactEdges.{between-swap, InContact-swap, InCont
 use Rattle.agglo_model.proofs.Means.{before-reaches}
 use Rattle.agglo_model.proofs.Renames.{merges_contacts}
 use Rattle.agglo_model.proofs.Reducible.{not_in_contact-left, not_in_contact-right}
-use Rattle.agglo_model.proofs.Diamonds.{InContact-absorbed, count_cases, name_cases}
+use Rattle.agglo_model.proofs.Diamonds.{InContact-absorbed, count_cases}
 use Rattle.agglo_model.proofs.FirstPartners.{first_partner_exists}
 use Rattle.agglo_model.proofs.Works.{StepsKeep}
+use Rattle.agglo_model.proofs.Cases.{name_cases}
 
 -- no contact of x reaches the threshold
 abbrev pub IsStuck : Grid → Threshold → ℕ → List ℕ → Type 0

@@ -2,6 +2,7 @@
 use Rattle.std.proofs.Common.{◌≡◌, ℕ, ◌+◌, ◌*◌, ◌<◌, ◌≤◌, nat_lt, Bool, true, false, if◌then◌else◌, List, [], length, take, Option, Some, None, refl, sym, ap, ◌∙◌, arith, ◌⊎◌, inl, inr}
 use Rattle.std.proofs.lemmas.Bool.Decides.{nat_tests}
 use Rattle.std.proofs.lemmas.List.{take_all, length-take-le}
+use Rattle.std.proofs.lemmas.Bool.{lt-ltb, le-ltb}
 use Rattle.agglo_model.specs.Axes.{Axes}
 use Rattle.agglo_model.specs.PairOrder.{Threshold}
 use Rattle.agglo_model.specs.TreeFile.{TreeFlaw, Truncated, Trailing, body_flaw, records_flaw, merges_in, record_length}
@@ -15,27 +16,21 @@ flaw_is : (axes : Axes) (t : Threshold) (n : ℕ) (bytes : List ℕ) (short long
 unfolding body_flaw judged
 flaw_is axes t n bytes short long p q = λ i. judged (p i) (q i) (length bytes) (records_flaw axes t [] (merges_in n bytes))
 
-below : (n m : ℕ) → n < m → nat_lt n m ≡ true
-below n m h = grind (arith, nat_tests)
-
-not_below : (n m : ℕ) → m ≤ n → nat_lt n m ≡ false
-not_below n m h = grind (arith, nat_tests)
-
 pub short_body : (axes : Axes) (t : Threshold) (n : ℕ) (bytes : List ℕ) → length bytes < record_length * n
     → body_flaw axes t n bytes ≡ Some (Truncated (length bytes))
 unfolding judged
-short_body axes t n bytes h = flaw_is axes t n bytes true _ (below (length bytes) (record_length * n) h) refl
+short_body axes t n bytes h = flaw_is axes t n bytes true _ (lt-ltb (length bytes) (record_length * n) h) refl
 
 pub long_body : (axes : Axes) (t : Threshold) (n : ℕ) (bytes : List ℕ) → record_length * n < length bytes → body_flaw axes t n bytes ≡ Some Trailing
 unfolding judged
 long_body axes t n bytes h =
-    flaw_is axes t n bytes false true (not_below (length bytes) (record_length * n) (omega (arith, h))) (below (record_length * n) (length bytes) h)
+    flaw_is axes t n bytes false true (le-ltb (length bytes) (record_length * n) (omega (arith, h))) (lt-ltb (record_length * n) (length bytes) h)
 
 pub whole_body : (axes : Axes) (t : Threshold) (n : ℕ) (bytes : List ℕ) → length bytes ≡ record_length * n
     → body_flaw axes t n bytes ≡ records_flaw axes t [] (merges_in n bytes)
 unfolding judged
 whole_body axes t n bytes h =
-    flaw_is axes t n bytes false false (not_below (length bytes) (record_length * n) (omega (arith, h))) (not_below (record_length * n) (length bytes) (omega (arith, h)))
+    flaw_is axes t n bytes false false (le-ltb (length bytes) (record_length * n) (omega (arith, h))) (le-ltb (record_length * n) (length bytes) (omega (arith, h)))
 
 -- one byte more than the records have shows whether there are too many
 pub cut_body : (axes : Axes) (t : Threshold) (n : ℕ) (bytes : List ℕ)

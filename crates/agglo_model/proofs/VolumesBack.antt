@@ -4,6 +4,7 @@ use Rattle.std.specs.Prelude.{All}
 use Rattle.std.specs.List.{starts_with}
 use Rattle.std.proofs.lemmas.Bool.Decides.{nat_tests}
 use Rattle.std.proofs.lemmas.List.{get_or-drop}
+use Rattle.std.proofs.lemmas.Bool.{le-ltb}
 use Rattle.agglo_model.specs.Axes.{Axes, AxesFlaw, IsWithinLimits, axes_flaw, edge_count}
 use Rattle.agglo_model.specs.Grid.{Grid}
 use Rattle.agglo_model.specs.LabelFile.{u32_bytes}
@@ -20,9 +21,6 @@ axes_back volume limits =
     let nz = four_digits volume.axes.nz (omega (arith, limits.most_z)) in
     λ i. record { nx = nx i; ny = ny i; nz = nz i }
 
-not_below : (n m : ℕ) → m ≤ n → nat_lt n m ≡ false
-not_below n m h = grind (arith, nat_tests)
-
 -- a header that passes each test has no flaw
 no_header_flaw : (bytes : List ℕ) → nat_lt (length bytes) header_length ≡ false → starts_with nat_eq bytes volume_magic ≡ true
     → (channels bytes == 3) ≡ true → (sum (reserved bytes) == 0) ≡ true → axes_flaw (header_axes bytes) ≡ None
@@ -37,14 +35,14 @@ no_header_flaw bytes long text three zero axes =
     else Some (Channels (channels bytes)))
     else Some Magic)
 
-no_body_flaw : (axes : Axes) (bytes : List ℕ) → length bytes ≡ edge_count axes → body_flaw axes bytes ≡ None
+pub no_body_flaw : (axes : Axes) (bytes : List ℕ) → length bytes ≡ edge_count axes → body_flaw axes bytes ≡ None
 unfolding body_flaw
 no_body_flaw axes bytes counted = grind (arith, nat_tests, counted)
 
 pub volumes_read_back : VolumesReadBack
 volumes_read_back volume whole =
     let axes = axes_back volume whole.limits in
-    let header = no_header_flaw (volume_bytes volume) (not_below (length (volume_bytes volume)) header_length (omega arith))
+    let header = no_header_flaw (volume_bytes volume) (le-ltb (length (volume_bytes volume)) header_length (omega arith))
     refl refl refl (ap axes_flaw axes ∙ no_axes_flaw volume.axes whole.limits) in
     let body = ap (λ a. body_flaw a volume.bytes) axes ∙ no_body_flaw volume.axes volume.bytes whole.whole_body in
     ((λ i. first_of_two (header i) (body i)), λ i. record { axes = axes i; bytes = volume.bytes })

@@ -55,7 +55,7 @@ cells_wait g t c labels works on m p worked node is v held =
     (λ n low high. held_between c on.cutting m p n v node parent (omega arith) high held)
 
 -- the leaves come first
-leaf_below : (c : Chunking) (m : ℕ) → m < cells_at c 0 → m < node_count c
+pub leaf_below : (c : Chunking) (m : ℕ) → m < cells_at c 0 → m < node_count c
 leaf_below c m below = omega (arith, first_node_le c 1 (suc (last_level c)) (omega arith))
 
 pub leaves_start_fresh : LeavesStartFresh

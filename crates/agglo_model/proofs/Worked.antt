@@ -1,6 +1,6 @@
 -- Worked examples: tests that compute whether a list has each property of basin labels.
-use Rattle.std.proofs.Common.{◌≡◌, ℕ, zero, suc, ◌+◌, ◌<◌, ◌⊎◌, ◌↔◌, ◌==◌, ◌&&◌, nat_lt, Bool, true, false, cond, List, [], ◌∷◌, Option, Some, None, MatchOption, refl, sym, ◌∙◌, ap, ap₂, subst, inl, inr, arith, eq-eqb, eqb-true, ltb-true, lit<, eq-or-lt_of_le}
-use Rattle.std.proofs.lemmas.Bool.Decides.{nat_tests}
+use Rattle.std.proofs.Common.{◌≡◌, ℕ, zero, suc, ◌+◌, ◌<◌, ◌⊎◌, ◌↔◌, ◌==◌, ◌&&◌, nat_lt, Bool, true, cond, List, [], ◌∷◌, Option, Some, None, MatchOption, refl, sym, ◌∙◌, ap, ap₂, subst, inl, inr, arith, eq-eqb, eqb-true, ltb-true, lit<, eq-or-lt_of_le}
+use Rattle.std.proofs.lemmas.Bool.{and_parts, eqb-false}
 use Rattle.agglo_model.specs.Axes.{voxel_count, lower_end, higher_end}
 use Rattle.agglo_model.specs.Grid.{Grid}
 use Rattle.agglo_model.specs.EdgeOrder.{IsBest, HasNoBest}
@@ -16,16 +16,12 @@ abbrev all_below : (ℕ → Bool) → ℕ → Bool
 all_below p zero = true
 all_below p (suc n) = p n && all_below p n
 
-both_true : (b c : Bool) → (b && c) ≡ true → (b ≡ true) × (c ≡ true)
-both_true true c t = (refl, t)
-both_true false c t = absurd (cc)
-
 all_below_at : (p : ℕ → Bool) (n v : ℕ) → all_below p n ≡ true → v < n → p v ≡ true
 all_below_at p zero v t lt = absurd (omega arith)
 all_below_at p (suc n) v t lt = pick (all_below_at p n v both.1) (eq-or-lt_of_le (omega arith))
   where
     both : (p n ≡ true) × (all_below p n ≡ true)
-    both = both_true (p n) (all_below p n) t
+    both = and_parts (p n) (all_below p n) t
 
     pick : (v < n → p v ≡ true) → (v ≡ n) ⊎ (v < n) → p v ≡ true
     pick rest (inl is) = subst (λ u. p u ≡ true) (sym is) both.0
@@ -150,9 +146,6 @@ two_arms_are =
     let is : basin_labels two_arms 1 ≡ arms_labels = refl in
     subst (λ l. AreBasins two_arms 1 l) is (basin_labels_are two_arms 1)
 
-apart : (x y : ℕ) → (x == y) ≡ false → x ≡ y → ⊥
-apart x y t is = grind (arith, nat_tests)
-
 -- labels on background
 pub on_background_along : LabelsAgreeAlong two_basins 190 labels_on_background
 unfolding best_of
@@ -165,7 +158,7 @@ on_background_named = named_holds two_basins 190 labels_on_background refl
 pub on_background_broken : ¬ BackgroundIsUnlabelled two_basins 190 labels_on_background
 unfolding best_of
 on_background_broken h =
-    apart 4 0 refl ((h 2 (lit< tt)).1 (none_from two_basins 190 2 refl))
+    eqb-false 4 0 refl ((h 2 (lit< tt)).1 (none_from two_basins 190 2 refl))
 
 -- a basin in two halves
 pub halves_background : BackgroundIsUnlabelled two_basins 1 labels_of_halves
@@ -179,7 +172,7 @@ halves_named = named_holds two_basins 1 labels_of_halves refl
 pub halves_broken : ¬ LabelsAgreeAlong two_basins 1 labels_of_halves
 unfolding best_of
 halves_broken h =
-    apart 1 2 refl (h 0 3 (best_from two_basins 1 0 3 refl))
+    eqb-false 1 2 refl (h 0 3 (best_from two_basins 1 0 3 refl))
 
 -- a basin named by the higher voxel
 pub by_higher_background : BackgroundIsUnlabelled two_basins 1 labels_by_higher
@@ -193,4 +186,4 @@ by_higher_along = along_holds two_basins 1 labels_by_higher refl
 pub by_higher_broken : ¬ RootsNameBasins two_basins 1 labels_by_higher
 unfolding best_of
 by_higher_broken h =
-    apart 4 3 refl (h 9 (best_from two_basins 1 2 9 refl) (best_from two_basins 1 3 9 refl))
+    eqb-false 4 3 refl (h 9 (best_from two_basins 1 2 9 refl) (best_from two_basins 1 3 9 refl))

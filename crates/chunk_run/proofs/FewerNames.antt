@@ -1,10 +1,10 @@
 -- Each merge of two names in contact leaves one name less, so there are fewer merges than names.
-use Rattle.std.proofs.Common.{◌≡◌, ◌≢◌, ◌⊎◌, inl, inr, ℕ, zero, suc, ◌+◌, ◌<◌, ◌≤◌, ◌==◌, Bool, true, false, cond, List, [], ◌∷◌, length, get_or, count_by, refl, sym, ap, ◌∙◌, subst, eq-eqb, eqb-true, arith}
+use Rattle.std.proofs.Common.{◌≡◌, ◌≢◌, ◌⊎◌, inl, inr, ℕ, zero, suc, ◌+◌, ◌<◌, ◌≤◌, ◌==◌, Bool, true, false, cond, List, [], ◌∷◌, length, count_by, refl, sym, ap, ◌∙◌, subst, eq-eqb, eqb-true, arith}
 use Rattle.std.specs.List.{range_with_len}
 use Rattle.std.proofs.lemmas.Bool.{cases_lt}
 use Rattle.std.proofs.lemmas.Bool.Decides.{nat_tests}
 use Rattle.std.proofs.lemmas.Grind.{fold-append}
-use Rattle.std.proofs.lemmas.List.{get_or_past, length-append}
+use Rattle.std.proofs.lemmas.List.{get_or_past, length-append, get_or_default}
 use Rattle.std.proofs.lemmas.List.Folds.{Any-from_list_any, list_any_at}
 use Rattle.std.proofs.lemmas.List.FromFn.{length-range_with_len}
 use Rattle.std.proofs.lemmas.List.Sums.{sum_by-cons, count_by-le-length}
@@ -17,7 +17,8 @@ use Rattle.agglo_model.specs.Cutting.{Chunking}
 use Rattle.agglo_model.specs.Work.{IsWork, AreWorksFrom, all_merges}
 use Rattle.agglo_model.proofs.ContactEdges.{InContact-names}
 use Rattle.agglo_model.proofs.LawfulMerges.{InContact-occurs}
-use Rattle.agglo_model.proofs.Renames.{new_name, label-renamed}
+use Rattle.agglo_model.proofs.Renames.{new_name, label-renamed, not_absorbed}
+use Rattle.agglo_model.proofs.Tests.{implied_le}
 
 -- some voxel has the label x
 abbrev Occurs : List ℕ → ℕ → Type 0
@@ -33,13 +34,8 @@ occurs_is : (labels : List ℕ) (x : ℕ) → occurs labels x ≡ true → Occur
 occurs_is labels x pass =
     let found = Any-from_list_any (λ y. y == x) labels pass in (
       found.0,
-      default labels found.0 found.1 0 found.2 ∙ found.3 ∙ eqb-true found.1 x found.4,
+      get_or_default labels found.0 0 found.1 found.2 ∙ found.3 ∙ eqb-true found.1 x found.4,
     )
-  where
-    default : (xs : List ℕ) (i d e : ℕ) → i < length xs → get_or xs i e ≡ get_or xs i d
-    default [] i d e inside = absurd (omega arith)
-    default (y ∷ ys) zero d e inside = refl
-    default (y ∷ ys) (suc i) d e inside = default ys i d e (omega arith)
 
 -- how many names up to n occur
 abbrev pub names_up_to : ℕ → List ℕ → ℕ
@@ -55,14 +51,6 @@ AreUpTo n labels = (x : ℕ) → Occurs labels x → x ≤ n
 
 -- ---- counts of tests
 
-implied_one : (p q : Bool) → (q ≡ true → p ≡ true) → cond q 1 0 ≤ cond p 1 0
-implied_one p false implies = omega arith
-implied_one true true implies = omega arith
-implied_one false true implies = absurd (differ (implies refl))
-  where
-    differ : false ≡ true → ⊥
-    differ same = cc
-
 counted_one : (t : Bool) → t ≡ true → 1 ≤ cond t 1 0
 counted_one true pass = omega arith
 counted_one false pass = absurd cc
@@ -76,7 +64,7 @@ counts_less : (p q : ℕ → Bool) (a n : ℕ) → ((x : ℕ) → a ≤ x → q 
     → count_by q (range_with_len a n) ≤ count_by p (range_with_len a n)
 counts_less p q a zero implies = omega arith
 counts_less p q a (suc n) implies =
-    let now = implied_one (p a) (q a) (implies a (omega arith)) in
+    let now = implied_le (p a) (q a) (implies a (omega arith)) in
     let rest = counts_less p q (a + 1) n (λ x from pass. implies x (omega arith) pass) in
     let sum_p = sum_by-cons (λ x. cond (p x) 1 0) a (range_with_len (a + 1) n) in
     let sum_q = sum_by-cons (λ x. cond (q x) 1 0) a (range_with_len (a + 1) n) in
@@ -88,7 +76,7 @@ counts_fewer : (p q : ℕ → Bool) (a n b : ℕ) → ((x : ℕ) → a ≤ x →
 counts_fewer p q a zero b implies from to pass fail = absurd (omega arith)
 counts_fewer p q a (suc n) b implies from to pass fail = elim (cases_lt a b) [
   | inl later ↦ (
-      let now = implied_one (p a) (q a) (implies a (omega arith)) in
+      let now = implied_le (p a) (q a) (implies a (omega arith)) in
       let rest = counts_fewer p q (a + 1) n b (λ x low q_pass. implies x (omega arith) q_pass) (omega arith) (omega arith) pass fail in
       let sum_p = sum_by-cons (λ x. cond (p x) 1 0) a (range_with_len (a + 1) n) in
       let sum_q = sum_by-cons (λ x. cond (q x) 1 0) a (range_with_len (a + 1) n) in
@@ -108,9 +96,6 @@ counts_fewer p q a (suc n) b implies from to pass fail = elim (cases_lt a b) [
 -- what occurs after a rename occurred before
 old_name : (a b x : ℕ) → (new_name a b x ≡ a) ⊎ (new_name a b x ≡ x)
 old_name a b x = grind (arith, nat_tests)
-
-not_absorbed : (a b x : ℕ) → a ≢ b → new_name a b x ≢ b
-not_absorbed a b x apart = grind (arith, nat_tests)
 
 module _ (g : Grid) (labels : List ℕ) (a b : ℕ) (touching : InContact g labels a b) where
   occurred : (x : ℕ) → Occurs (renamed labels a b) x → Occurs labels x

@@ -1,7 +1,7 @@
 -- A run goes on by one node.
 use Rattle.std.proofs.Common.{◌≡◌, ◌≢◌, ◌⊎◌, inl, inr, ℕ, ◌+◌, ◌<◌, ◌≤◌, List, [], ◌∷◌, ◌++◌, length, get_or, set, Option, Some, sym, ap, ◌∙◌, subst, arith}
 use Rattle.std.proofs.Math.Seq.{get_or-append_seam}
-use Rattle.std.proofs.lemmas.Bool.{cases_lt}
+use Rattle.std.proofs.lemmas.Bool.{cases_eq}
 use Rattle.std.proofs.lemmas.Grind.{flat_map-append}
 use Rattle.std.proofs.lemmas.List.{append-nil, get_or_append_left, get_or-set_same, get_or-set_other, length-append, length-set}
 use Rattle.agglo_model.specs.Greedy.{Merge}
@@ -10,6 +10,7 @@ use Rattle.agglo_model.specs.Work.{all_merges, labels_after}
 use Rattle.agglo_model.specs.RegionGraph.{RegionGraph, IsResidue, residue_of}
 use Rattle.agglo_model.specs.Report.{Level}
 use Rattle.agglo_model.proofs.Levels.{on_level}
+use Rattle.agglo_model.proofs.Cases.{below_next}
 use Rattle.region_graph.specs.SiteView.{SiteView}
 use Rattle.work_laws.specs.Turns.{IsTurn, ResiduesStay}
 use Rattle.chunk_run.specs.Turns.{Waits, HasWorked, count_among, level_at, no_node, with_node}
@@ -19,15 +20,6 @@ use Rattle.chunk_run.proofs.LevelCounts.{residue_stays, residue_added, own_level
 pub merges_more : (works : List (List Merge)) (made : List Merge) → all_merges (works ++ made ∷ []) ≡ all_merges works ++ made
 merges_more works made =
     flat_map-append (λ (work : List Merge). work) works (made ∷ []) ∙ ap (λ l. all_merges works ++ l) (append-nil made)
-
-pub below_next : (n m : ℕ) → n < m + 1 → (n < m) ⊎ (n ≡ m)
-below_next n m below = elim (cases_lt n m) [
-  | inl less ↦ inl less
-  | inr past ↦ inr (omega arith)
-]
-
-pub same_or_not : (j k : ℕ) → (j ≡ k) ⊎ (j ≢ k)
-same_or_not j k = grind arith
 
 module _ (stay : ResiduesStay) (s : SiteView) (h : IsChunking s.cutting) (m : ℕ) (node : m < node_count s.cutting)
     (p : ℕ) (after : List (Option RegionGraph)) (merges : List Merge) (levels : List Level)
@@ -94,5 +86,5 @@ module _ (stay : ResiduesStay) (s : SiteView) (h : IsChunking s.cutting) (m : �
     one_level_each =
         length-set levels (level_of s.cutting m) (with_node (level_at levels (level_of s.cutting m)) (length made) (length left.regions))
         ∙ so_far.one_level_each;
-    counted = λ k d reached. counts_at k d reached (same_or_not (level_of s.cutting m) k);
+    counted = λ k d reached. counts_at k d reached (cases_eq (level_of s.cutting m) k);
   }

@@ -5,6 +5,7 @@ use Rattle.std.proofs.lemmas.List.{get_or-map, get_or_append_left, get_or-append
 use Rattle.std.proofs.lemmas.List.Elements.{Contains-get_or}
 use Rattle.std.proofs.lemmas.List.FromFn.{get_or-range_with_len, length-range_with_len}
 use Rattle.std.proofs.lemmas.List.Sorted.{All-permutation, Contains-permutation, IsPermutation-append, IsPermutation-map, IsPermutation-refl, IsPermutation-sym, IsPermutation-trans}
+use Rattle.std.proofs.lemmas.Slice.Zip.{AllZip-long}
 use Rattle.agglo_model.specs.Greedy.{Merge}
 use Rattle.agglo_model.specs.Cutting.{Chunking, IsChunking, node_count, level_of, child_count}
 use Rattle.agglo_model.specs.RegionGraph.{RegionGraph}
@@ -19,7 +20,7 @@ use Rattle.chunk_run.specs.Turns.{AreFromChildren, AreTaken, HasWorked, TakesTur
 use Rattle.chunk_run.specs.Lanes.{AreAscending, AreHandedOut, AreChildResidues, AreTurns, HasTaken, IsDone, IsReady, jobs_in, kid_lists, nodes_of}
 use Rattle.chunk_run.proofs.Kids.{from_children}
 use Rattle.chunk_run.proofs.Numbers.{numbers_are, long, range_more}
-use Rattle.chunk_run.proofs.Parts.{zip_at, zip_long}
+use Rattle.chunk_run.proofs.Parts.{zip_at}
 use Rattle.chunk_run.proofs.Steps.{taken_more}
 
 -- nodes between two of one level are on that level
@@ -130,7 +131,7 @@ module _ (s : SiteView) (first n : ℕ) (before after : List (Option RegionGraph
 
     all_done : All IsOf done
     all_done i d lt =
-        let inside : i < length handed = omega (arith, zip_long (IsDone s) handed done zip) in
+        let inside : i < length handed = omega (arith, AllZip-long (IsDone s) handed done zip) in
         by_first handed refl inside
       where
         by_first : (l : List Job) → l ≡ handed → i < length l → IsOf (get_or done i d)

@@ -1,6 +1,7 @@
 -- The residues of a node's children are among those that wait.
 use Rattle.std.proofs.Common.{◌≡◌, ◌≢◌, inl, inr, ℕ, ◌+◌, ◌<◌, ◌≤◌, ◌==◌, Bool, true, false, cond, List, Option, Some, None, refl, sym, ap, ◌∙◌, subst, eqb-true, arith}
 use Rattle.std.proofs.lemmas.Bool.{cases_lt}
+use Rattle.std.proofs.lemmas.Option.{same_Some}
 use Rattle.agglo_model.specs.Greedy.{Merge}
 use Rattle.agglo_model.specs.Cutting.{Chunking, IsChunking, node_count, root, level_of, parent, child, child_count}
 use Rattle.agglo_model.specs.Work.{labels_after}
@@ -55,9 +56,6 @@ from_children s m p waiting merges levels so_far n kids left = record {
   );
 }
 
-some_same : (x y : ℕ) → Some x ≡ Some y → x ≡ y
-some_same x y same = cc
-
 module _ (s : SiteView) (h : IsChunking s.cutting) (first n : ℕ) (node : n < node_count s.cutting) (from : first ≤ n)
     (level : level_of s.cutting first ≡ level_of s.cutting n) where
   -- the children of the nodes of a level come before the level
@@ -102,7 +100,7 @@ module _ (s : SiteView) (h : IsChunking s.cutting) (first n : ℕ) (node : n < n
       pub no_child : (m q : ℕ) → parent s.cutting m ≡ Some q → n + 1 ≤ q → (i : ℕ) → i < child_count s.cutting n
           → m ≢ child s.cutting n i
       no_child m q above later i below same =
-          let one = some_same q n (sym above ∙ ap (parent s.cutting) same ∙ (child_family s.cutting h n node i below).1) in
+          let one = same_Some q n (sym above ∙ ap (parent s.cutting) same ∙ (child_family s.cutting h n node i below).1) in
           omega (arith, one, later)
 
       -- and all others still wait

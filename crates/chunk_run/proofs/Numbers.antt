@@ -14,7 +14,7 @@ range_more a (suc n) j e = ap (λ l. a ∷ l) (range_more (a + 1) n j (omega ari
 either : (x y : ℕ) → eqb x y ≡ eqb y x
 either x y = grind (arith, nat_tests)
 
-numbers_differ : (x y : ℕ) → x < y → eqb x y ≡ false
+pub numbers_differ : (x y : ℕ) → x < y → eqb x y ≡ false
 numbers_differ x y below = grind (arith, nat_tests)
 
 less_from : (x y : ℕ) → x ≤ y → eqb x y ≡ false → x < y

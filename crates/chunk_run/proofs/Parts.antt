@@ -1,5 +1,5 @@
 -- Jobs that are handed out to lanes, and what the lanes have done, in one list.
-use Rattle.std.proofs.Common.{◌≡◌, ℕ, zero, suc, ◌<◌, List, [], ◌∷◌, ◌++◌, Ok, IfOk, Result, Vec, length, get_or, set, IsPermutation, flat_map, refl, sym, ap, ◌∙◌, subst, arith}
+use Rattle.std.proofs.Common.{◌≡◌, ℕ, zero, suc, ◌<◌, List, [], ◌∷◌, ◌++◌, Ok, IfOk, Result, Vec, length, get_or, set, IsPermutation, flat_map, sym, ap, ◌∙◌, subst, arith}
 use Rattle.std.specs.List.{AllZip}
 use Rattle.std.proofs.lemmas.Grind.{flat_map-append}
 use Rattle.std.proofs.lemmas.List.{append-nil, append_assoc, get_or-map, length-map, map-append}
@@ -17,12 +17,6 @@ zip_after R [] us [] vs zip then = then
 zip_after R [] us (y ∷ ys) vs zip then = absurd zip
 zip_after R (x ∷ xs) us [] vs zip then = absurd zip
 zip_after R (x ∷ xs) us (y ∷ ys) vs zip then = (zip.0, zip_after R xs us ys vs zip.1 then)
-
-pub zip_long : {A B : Type 0} (R : A → B → Type 0) (xs : List A) (ys : List B) → AllZip R xs ys → length xs ≡ length ys
-zip_long R [] [] zip = refl
-zip_long R [] (y ∷ ys) zip = absurd zip
-zip_long R (x ∷ xs) [] zip = absurd zip
-zip_long R (x ∷ xs) (y ∷ ys) zip = ap suc (zip_long R xs ys zip.1)
 
 pub zip_at : {A B : Type 0} (R : A → B → Type 0) (xs : List A) (ys : List B) (i : ℕ) (d : A) (e : B) → AllZip R xs ys
     → i < length xs → R (get_or xs i d) (get_or ys i e)

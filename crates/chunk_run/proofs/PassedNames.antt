@@ -1,7 +1,6 @@
 -- The names that the nodes of a level pass on are no more than voxels.
-use Rattle.std.proofs.Common.{◌≡◌, ◌⊎◌, inl, inr, ℕ, zero, suc, ◌+◌, ◌<◌, ◌≤◌, ◌==◌, nat_lt, Bool, true, false, cond, eqb, List, [], ◌∷◌, map, filter, length, get_or, count_by, sum_by, refl, sym, ap, ◌∙◌, subst, eqb-true, eq-eqb, arith}
+use Rattle.std.proofs.Common.{◌≡◌, ℕ, zero, suc, ◌+◌, ◌<◌, ◌≤◌, ◌==◌, nat_lt, Bool, true, cond, eqb, List, [], ◌∷◌, map, filter, length, get_or, count_by, sum_by, sym, ap, ◌∙◌, eqb-true, eq-eqb, arith}
 use Rattle.std.specs.Prelude.{Contains, AllPairs}
-use Rattle.std.specs.Cmp.{IsEquivalence}
 use Rattle.std.specs.List.{range_with_len, list_any, IsDistinct}
 use Rattle.std.proofs.lemmas.Bool.Decides.{nat_tests}
 use Rattle.std.proofs.lemmas.List.{get_or-map, length-map}
@@ -11,6 +10,7 @@ use Rattle.std.proofs.lemmas.List.FromFn.{length-range_with_len, get_or-range_wi
 use Rattle.std.proofs.lemmas.List.Sums.{sum_by-cons, count_by-le-length, length-filter}
 use Rattle.std.proofs.lemmas.Map.Keys.{IsDistinct-from_apart}
 use Rattle.std.proofs.lemmas.Map.Made.{length-le_from_is_member}
+use Rattle.std.proofs.lemmas.Cmp.{nat_eq_equiv}
 use Rattle.agglo_model.specs.Axes.{voxel_count}
 use Rattle.agglo_model.specs.Basins.{label_of}
 use Rattle.agglo_model.specs.Grid.{Grid}
@@ -20,42 +20,14 @@ use Rattle.agglo_model.specs.Freezing.{is_held}
 use Rattle.agglo_model.specs.RegionGraph.{Region, RegionGraph, IsResidue, residue_of}
 use Rattle.agglo_model.proofs.Freezing.{held_voxel, held_node, occurs_at, part_held, part_name}
 use Rattle.agglo_model.proofs.Levels.{level_of-is}
-use Rattle.agglo_model.proofs.Members.{contains_head, contains_tail, contains_cases, contains_none, Contains-map}
+use Rattle.agglo_model.proofs.Members.{Contains-map, Contains-filter}
+use Rattle.agglo_model.proofs.Tests.{count_le}
 use Rattle.chunk_run.specs.Turns.{nodes_among}
 use Rattle.chunk_run.proofs.LevelCounts.{size_among}
 use Rattle.chunk_run.proofs.RangeSums.{sum_end, lesser_sum}
+use Rattle.chunk_run.proofs.Numbers.{numbers_differ}
 
 -- ---- distinct names that voxels have
-
-equal_names : IsEquivalence eqb
-equal_names = record { refl = λ x. same x; symm = λ x y. either x y; congr = λ x y z is. along x y z is }
-  where
-    same : (x : ℕ) → eqb x x ≡ true
-    same x = grind (arith, nat_tests)
-
-    either : (x y : ℕ) → eqb x y ≡ eqb y x
-    either x y = grind (arith, nat_tests)
-
-    along : (x y z : ℕ) → eqb x y ≡ true → eqb x z ≡ eqb y z
-    along x y z is = grind (arith, nat_tests)
-
-contains_filter : {X : Type 0} (p : X → Bool) (xs : List X) (x : X) → Contains xs x → p x ≡ true → Contains (filter p xs) x
-contains_filter p [] x inside pass = absurd (contains_none x inside)
-contains_filter p (y ∷ xs) x inside pass =
-    step (p y) (contains_cases y x xs inside) (λ same. ap p same ∙ pass) (λ later. contains_filter p xs x later pass)
-  where
-    step : (b : Bool) → (y ≡ x) ⊎ Contains xs x → (y ≡ x → b ≡ true) → (Contains xs x → Contains (filter p xs) x)
-        → Contains (cond b (y ∷ filter p xs) (filter p xs)) x
-    step true (inl same) own rest = subst (Contains (y ∷ filter p xs)) same (contains_head y (filter p xs))
-    step true (inr later) own rest = contains_tail y x (filter p xs) (rest later)
-    step false (inl same) own rest = absurd (differ (own same))
-      where
-        differ : false ≡ true → ⊥
-        differ is = cc
-    step false (inr later) own rest = rest later
-
-names_differ : (x y : ℕ) → x < y → eqb x y ≡ false
-names_differ x y below = grind (arith, nat_tests)
 
 -- names that ascend, each of them the label of a voxel that passes a test, are no more than such voxels
 names-le : (held : ℕ → Bool) (n : ℕ) (labels : List ℕ) (regions : List Region) → AllPairs (λ r s. r.name < s.name) regions
@@ -71,7 +43,7 @@ names-le held n labels regions ascend there =
     let in_j : j < length regions = omega arith in
     let name_i = get_or-map (λ (r : Region). r.name) regions i none d (omega arith) in
     let name_j = get_or-map (λ (r : Region). r.name) regions j none d in_j in
-    names_differ (get_or xs i d) (get_or xs j d) (omega (arith, name_i, name_j, ascend i j none before in_j))) in
+    numbers_differ (get_or xs i d) (get_or xs j d) (omega (arith, name_i, name_j, ascend i j none before in_j))) in
     let members : (q : ℕ) → list_any (eqb q) xs ≡ true → list_any (eqb q) ys ≡ true = λ q pass.
     let found = Any-from_list_any (eqb q) xs pass in
     let inside : found.0 < length regions = omega (arith, found.2) in
@@ -81,13 +53,13 @@ names-le held n labels regions ascend there =
     let at : Contains (range_with_len 0 n) voxel.0 =
     (voxel.0, omega arith, get_or-range_with_len 0 n voxel.0 voxel.0 voxel.1 ∙ omega arith) in
     let own : Contains ys (label_of labels voxel.0) =
-    Contains-map (label_of labels) vs voxel.0 (contains_filter held (range_with_len 0 n) voxel.0 at voxel.2) in
+    Contains-map (label_of labels) vs voxel.0 (Contains-filter held (range_with_len 0 n) voxel.0 at voxel.2) in
     let name : q ≡ label_of labels voxel.0 =
     eqb-true q found.1 found.4 ∙ sym found.3 ∙ get_or-map (λ (r : Region). r.name) regions found.0 none found.1 inside
     ∙ sym voxel.3 in
     list_any_at (eqb q) ys own.0 (label_of labels voxel.0) own.1
     (eq-eqb q (get_or ys own.0 (label_of labels voxel.0)) (name ∙ sym own.2)) in
-    let few = length-le_from_is_member equal_names xs ys distinct members in
+    let few = length-le_from_is_member nat_eq_equiv xs ys distinct members in
     let voxels : length ys ≡ count_by held (range_with_len 0 n) = length-map vs (label_of labels) ∙ length-filter held (range_with_len 0 n) in
     omega arith
 
@@ -130,23 +102,6 @@ values-le f vs a (suc n) =
     let same = ap (λ k. count_by (λ v. nat_lt (f v) k) vs) next in
     omega arith
 
-held_at : (p q : ℕ → Bool) (vs : List ℕ) → ((v : ℕ) → p v ≡ true → q v ≡ true) → count_by p vs ≤ count_by q vs
-held_at p q [] implies = omega arith
-held_at p q (v ∷ vs) implies =
-    let rest = held_at p q vs implies in
-    let now = one (p v) (q v) (implies v) in
-    let by_p = sum_by-cons (λ x. cond (p x) 1 0) v vs in
-    let by_q = sum_by-cons (λ x. cond (q x) 1 0) v vs in
-    omega arith
-  where
-    one : (a b : Bool) → (a ≡ true → b ≡ true) → cond a 1 0 ≤ cond b 1 0
-    one false b pass = omega arith
-    one true true pass = omega arith
-    one true false pass = absurd (differ (pass refl))
-      where
-        differ : false ≡ true → ⊥
-        differ is = cc
-
 -- the names that the nodes of level k among the first m pass on
 pub passed-le : (g : Grid) (t : Threshold) (c : Chunking) (m k : ℕ) (labels : ℕ → List ℕ) (residues : List RegionGraph)
     → k ≤ last_level c → ((n : ℕ) → n < m → IsResidue g t c n (labels n) (residue_of residues n))
@@ -159,8 +114,8 @@ passed-le g t c m k labels residues reached are =
     (λ n from to.
     let level : level_of c n ≡ k = level_of-is c k n (record { reached = reached; from = from; to = omega arith }) in
     let own = residue-le g t c n (labels n) (residue_of residues n) (are n (omega arith)) in
-    let here = held_at (is_held c n) (λ v. node_at c k v == n) vs (λ v held.
-    eq-eqb (node_at c k v) n (ap (λ j. node_at c j v) (sym level) ∙ held_node c n v held)) in
+    let here = count_le (λ v. node_at c k v == n) (is_held c n) (λ v held.
+    eq-eqb (node_at c k v) n (ap (λ j. node_at c j v) (sym level) ∙ held_node c n v held)) vs in
     omega arith) in
     let all = values-le (node_at c k) vs a size in
     let most = count_by-le-length (λ v. nat_lt (node_at c k v) (a + size)) vs in

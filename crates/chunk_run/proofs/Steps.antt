@@ -1,13 +1,13 @@
 -- One step of the run: a node takes its children's residues, works, and is counted.
 use Rattle.std.proofs.Common.{◌≡◌, ◌⊎◌, inl, inr, ℕ, ◌+◌, ◌-◌, ◌<◌, ◌≤◌, List, [], ◌∷◌, ◌++◌, length, get_or, take, drop, set, Option, Some, sym, ap, ◌∙◌, subst, arith}
 use Rattle.std.proofs.Math.Seq.{get_or-append_seam}
-use Rattle.std.proofs.lemmas.Bool.{cases_lt}
 use Rattle.std.proofs.lemmas.List.{append-nil, take_all, drop_all, get_or_append_left, length-append}
 use Rattle.agglo_model.specs.Greedy.{Merge}
 use Rattle.agglo_model.specs.Cutting.{Chunking, IsChunking, node_count, level_of, child, child_count}
 use Rattle.agglo_model.specs.RegionGraph.{RegionGraph}
 use Rattle.agglo_model.specs.Report.{Level}
 use Rattle.agglo_model.proofs.Levels.{on_level}
+use Rattle.agglo_model.proofs.Cases.{below_next}
 use Rattle.region_graph.specs.SiteView.{SiteView, IsSite}
 use Rattle.work_laws.specs.Turns.{ResiduesStay}
 use Rattle.chunk_run.specs.Turns.{AreTaken, HasRoom, TakesTurn, level_at, with_node}
@@ -32,12 +32,6 @@ pub taken_alike : (c other : Chunking) (m : ℕ) (before others after : List (Op
 taken_alike c other m before others after kids cutting list taken =
     subst (λ l. AreTaken c m (child_count c m) l after kids) list
     (subst (λ t. AreTaken t m (child_count t m) others after kids) cutting taken)
-
-below_next : (q n : ℕ) → q < n + 1 → (q < n) ⊎ (q ≡ n)
-below_next q n below = elim (cases_lt q n) [
-  | inl less ↦ inl less
-  | inr past ↦ inr (omega arith)
-]
 
 -- ---- a node is given its kids
 

@@ -5,6 +5,7 @@ use Rattle.std.proofs.lemmas.Bool.{cases_lt}
 use Rattle.std.proofs.lemmas.List.{get_or_past, get_or_append_left, get_or-set_other, length-append, length-set}
 use Rattle.agglo_model.specs.Cutting.{Chunking, IsChunking, node_count, child_count, child}
 use Rattle.agglo_model.specs.RegionGraph.{RegionGraph, residue_of}
+use Rattle.agglo_model.proofs.Cases.{below_next}
 use Rattle.work_laws.proofs.Children.{is_inner, one_child}
 use Rattle.chunk_run.specs.Turns.{Waits, AreTaken}
 
@@ -27,12 +28,6 @@ none_taken c m waiting = record {
   same_length = refl;
   others = λ n d apart. refl;
 }
-
-below_next : (i n : ℕ) → i < n + 1 → (i < n) ⊎ (i ≡ n)
-below_next i n below = elim (cases_lt i n) [
-  | inl less ↦ inl less
-  | inr past ↦ inr (omega arith)
-]
 
 module _ (c : Chunking) (h : IsChunking c) (m : ℕ) (node : m < node_count c) (i : ℕ) (inside : i < child_count c m)
     (before after : List (Option RegionGraph)) (kids : List RegionGraph) (so_far : AreTaken c m i before after kids) where

@@ -2,7 +2,7 @@ use std::marker::Model;
 
 /// What the nodes of one level of a cutting did: how many they are, how many merges they made, and how many
 /// names they passed on, a name once for each node that passes it.
-#[derive(Clone, Copy, Debug, PartialEq, Eq)]
+#[derive(Clone, Copy)]
 pub struct LevelCount {
     pub nodes: u32,
     pub merges: u32,

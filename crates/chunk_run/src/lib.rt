@@ -12,8 +12,6 @@ mod lanes;
 mod node_work;
 mod progress;
 mod running;
-#[cfg(test)]
-mod tests;
 
 pub use count::LevelCount;
 pub use gate::{Gate, Open};

@@ -1,13 +1,14 @@
 -- Walks from level to level.
 use Rattle.std.proofs.Common.{◌≡◌, ℕ, suc, ◌+◌, ◌*◌, ◌-◌, ◌/◌, ◌^◌, ◌<◌, ◌≤◌, ◌≢◌, ◌==◌, min, List, [], ◌∷◌, get_or, Bool, true, false, cond, Option, Some, None, Fits, w32, inl, inr, refl, ap, sym, ◌∙◌, subst, add-one, arith}
 use Rattle.std.specs.Int.{div_ceil}
-use Rattle.std.proofs.lemmas.Bool.{cases_lt}
+use Rattle.std.proofs.lemmas.Bool.{cases_lt, ne_eqb}
 use Rattle.std.proofs.lemmas.Bool.Decides.{nat_tests}
 use Rattle.std.proofs.Math.Nat.{mul-le-mul, pow-le-pow_right}
 use Rattle.agglo_model.specs.Axes.{Axes, IsWithinLimits, IsPlace, voxel_count, voxel_at, coordinate, place_of}
 use Rattle.agglo_model.specs.Cutting.{Chunking, IsChunking, length_on, cell_length, cells_on, level_grid, cells_at, last_level, first_node, node_count, root, level_of, cell_place, children_grid, node_above, parent}
 use Rattle.agglo_model.proofs.Levels.{on_level, level_of-is, cells_at-last, cells_at_pos, is_last_level, last_level_le, first_node_le, node_count-lt}
 use Rattle.agglo_model.proofs.NodeCells.{first_node-next, level_grid-next, node_place, half_place, cell_begins, root_by_level, level_of-root, leaf_place}
+use Rattle.agglo_model.proofs.Cases.{twice_lt}
 use Rattle.chunk_tree.specs.declared.level.Level.{Level}
 use Rattle.chunk_tree.specs.Levels.{IsLevel}
 
@@ -155,10 +156,6 @@ begins_before_end t m c h k i leaf scale axis is_k below is_leaf is_scale is_axi
     (λ j. i * (is_leaf j * (is_scale ∙ ap (λ l. 2 ^ l) is_k) j)) in
     omega (arith, cell_begins t h (level_of t m) c i below)
 
--- the children's places begin within the level below
-twice_lt : (x n : ℕ) → x < div_ceil n 2 → 2 * x < n
-twice_lt x n below = omega arith
-
 pub children_begin : (t : Chunking) (m : ℕ) (level : Level) → IsChunking t → m < node_count t → IsLevel t level
     → suc level.number ≡ level_of t m → (place : List ℕ) → HasPlace t m place
     → IsPlace level.grid (2 * get_or place 0 0) (2 * get_or place 1 0) (2 * get_or place 2 0)
@@ -215,9 +212,6 @@ by_other_test : (b : Bool) (x : Option ℕ) → b ≡ false → x ≡ cond b Non
 by_other_test true x is = cc
 by_other_test false x is = refl
 
-other_number : (x y : ℕ) → x ≢ y → (x == y) ≡ false
-other_number x y differ = grind (arith, nat_tests)
-
 -- the root has no parent
 pub parent-root : (t : Chunking) (m : ℕ) → m ≡ root t → None ≡ parent t m
 parent-root t m is = by_test (m == root t) (Some (node_above t m)) (grind (arith, nat_tests))
@@ -257,7 +251,7 @@ parent-is t m next h is number place has index is_index =
     not_root same = omega (arith, ap (level_of t) same, level_of-root t h, number, is.reached)
 
     inner : (m == root t) ≡ false
-    inner = other_number m (root t) not_root
+    inner = ne_eqb m (root t) not_root
 
 -- a node of the next level comes after a node
 pub above_node : (t : Chunking) (m : ℕ) (next : Level) (x : ℕ) → m < node_count t → IsLevel t next

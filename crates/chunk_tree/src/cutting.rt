@@ -12,7 +12,7 @@ use std::marker::Model;
 const MOST_LEAVES: u32 = 1 << 18;
 
 /// Why a volume is not cut into leaves of three sizes. Axis 0 is x, 1 is y and 2 is z.
-#[derive(Clone, Copy, Debug, PartialEq, Eq)]
+#[derive(Clone, Copy)]
 pub enum CutFault {
     /// The size on this axis is the first of 0.
     ChunkZero(u8),
@@ -24,7 +24,7 @@ pub enum CutFault {
 /// lowest level are the leaves, at most 2^18, and those of each higher level have cells of twice the length on
 /// each axis; the last level is the first with one node, the root. Nodes are numbered level by level from the leaves,
 /// and in each level x runs fastest, then y, then z.
-#[derive(Clone, Copy, Debug, PartialEq, Eq)]
+#[derive(Clone, Copy)]
 pub struct Cutting {
     dims: Dims,
     leaf: Dims,

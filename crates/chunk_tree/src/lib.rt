@@ -8,8 +8,6 @@
 mod cutting;
 mod kids;
 mod level;
-#[cfg(test)]
-mod tests;
 
 pub use cutting::{CutFault, Cutting};
 pub use kids::Kids;

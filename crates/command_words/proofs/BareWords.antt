@@ -5,21 +5,18 @@ use Rattle.std.specs.declared.alloc.Global.{Global}
 use Rattle.std.proofs.lemmas.List.{take_all}
 use Rattle.command_words.specs.Texts.{texts}
 use Rattle.std.proofs.lemmas.Bool.Decides.{nat_tests}
+use Rattle.std.proofs.lemmas.List.Elements.{All-tail, All-cons}
 use Rattle.command_words.specs.Words.{Given, given_words, IsBare, Dashes, NoValue, IsName, Task, Spells, AreNoSettings, MayBeSettings, command_of}
 use Rattle.command_words.specs.Parts.{IsWithout}
 use Rattle.command_words.specs.Slots.{option_names}
-use Rattle.command_words.proofs.Cuts.{cut_once, no_parts}
-use Rattle.command_words.proofs.Slots.{all_tail}
-use Rattle.command_words.proofs.GivenWords.{dashed, known_without, OneWord, TwoWords, form_of, known_filled}
+use Rattle.command_words.proofs.Cuts.{cut_once, no_parts, same_rest}
+use Rattle.command_words.proofs.GivenWords.{dashed, known_without, OneWord, TwoWords, form_of, known_filled, same_dashed}
 use Rattle.command_words.proofs.PlainValues.{values_are_names}
 use Rattle.command_words.specs.Jobs.{task_of, AnswersWords}
 use Rattle.command_words.specs.declared.job.Job.{Job}
 use Rattle.command_words.specs.declared.job.WordsFault.{WordsFault}
 use Rattle.command_words.specs.declared.job.WordsFault.TheVariants.{NoSettings, Memory}
-use Rattle.command_words.proofs.WholeWords.{command_known, gives_known, tail_is}
-
-same_dashed : (a b : List ℕ) → dashed a ≡ dashed b → a ≡ b
-same_dashed a b e = cc e
+use Rattle.command_words.proofs.WholeWords.{command_known, gives_known}
 
 no_value_is : (name : List ℕ) → (codes "--" ++ name) ++ codes "=" ≡ dashed (name ++ 61 ∷ [])
 no_value_is name = refl
@@ -77,31 +74,27 @@ plain_value : (word : List ℕ) → IsName word → ¬ (IsBare word)
 plain_value word name (Dashes e) = name.no_option (ap (λ w. get_or w 0 0) e)
 plain_value word name (NoValue other none e) = name.no_option (ap (λ w. get_or w 0 0) e)
 
-all_more : {X : Type 0} (P : X → Type 0) (x : X) (xs : List X) → P x → All P xs → All P (x ∷ xs)
-all_more P x xs here all zero d lt = here
-all_more P x xs here all (suc k) d lt = all k d (omega arith)
-
 none_bare : (given : List Given) → All (λ o. Contains option_names o.name) given → All (λ o. IsName o.value) given
     → (words : List (List ℕ)) → words ≡ flat_map given_words given → All (λ word. ¬ (IsBare word)) words
 none_bare [] known named words e = subst (All (λ word. ¬ (IsBare word))) (sym e) (λ k d lt. absurd (omega arith))
 none_bare (o ∷ given) known named words e =
     let rest = flat_map given_words given in
-    let later = none_bare given (all_tail (λ p. Contains option_names p.name) o given known) (all_tail (λ p. IsName p.value) o given named) rest refl in
+    let later = none_bare given (All-tail (λ p. Contains option_names p.name) o given known) (All-tail (λ p. IsName p.value) o given named) rest refl in
     let without = known_without o.name (known 0 o (omega arith)) in
     let value : IsName o.value = named 0 o (omega arith) in
     elim (form_of o rest words e) [
-      | OneWord f ↦ subst (All (λ word. ¬ (IsBare word))) (sym f) (all_more (λ word. ¬ (IsBare word)) _ rest
+      | OneWord f ↦ subst (All (λ word. ¬ (IsBare word))) (sym f) (All-cons (λ word. ¬ (IsBare word)) _ rest
           (λ bare. (let none = ap length (bare_of_joined o.name o.value without bare) in let some = value.some in omega (arith, none, some))) later)
-      | TwoWords f ↦ subst (All (λ word. ¬ (IsBare word))) (sym f) (all_more (λ word. ¬ (IsBare word)) _ (o.value ∷ rest)
+      | TwoWords f ↦ subst (All (λ word. ¬ (IsBare word))) (sym f) (All-cons (λ word. ¬ (IsBare word)) _ (o.value ∷ rest)
           (λ bare. known_filled o.name (known 0 o (omega arith)) (bare_of_alone o.name without bare))
-          (all_more (λ word. ¬ (IsBare word)) o.value rest (plain_value o.value value) later))
+          (All-cons (λ word. ¬ (IsBare word)) o.value rest (plain_value o.value value) later))
     ]
 
 -- no word of settings is bare
 pub plain_words : (command : List ℕ) (words : List (List ℕ)) (task : Task) → Spells (command ∷ words) task → All (λ word. ¬ (IsBare word)) words
 plain_words command words task s =
     none_bare s.options (gives_known s.options task s.gives).known (values_are_names s.options task s.gives) words
-    (tail_is command (command_of task) words (flat_map given_words s.options) s.words_are)
+    (same_rest command (command_of task) words (flat_map given_words s.options) s.words_are)
 
 -- settings may be settings, so words that may not be are refused
 pub at_once : (r : Result Job WordsFault) (words : List (List ℕ)) → AnswersWords words r → ¬ (MayBeSettings words) → r ≡ Err NoSettings

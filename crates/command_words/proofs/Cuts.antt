@@ -18,19 +18,19 @@ pub rest_without : (c x : ℕ) (word : List ℕ) → IsWithout c (x ∷ word) �
 rest_without c x word without i below = without (suc i) (omega arith)
 
 -- the head and the tail of equal lists
-same_head : (x y : ℕ) (xs ys : List ℕ) → x ∷ xs ≡ y ∷ ys → x ≡ y
-same_head x y xs ys e = cc
+pub same_first : {X : Type 0} (x y : X) (xs ys : List X) → x ∷ xs ≡ y ∷ ys → x ≡ y
+same_first x y xs ys e = cc
 
-same_tail : (x y : ℕ) (xs ys : List ℕ) → x ∷ xs ≡ y ∷ ys → xs ≡ ys
-same_tail x y xs ys e = cc
+pub same_rest : {X : Type 0} (x y : X) (xs ys : List X) → x ∷ xs ≡ y ∷ ys → xs ≡ ys
+same_rest x y xs ys e = cc
 
 pub cut_once : (c : ℕ) (a b p q : List ℕ) → a ++ c ∷ b ≡ p ++ c ∷ q → IsWithout c a → IsWithout c p → (a ≡ p) × (b ≡ q)
-cut_once c [] b [] q e wa wp = (refl, same_tail c c b q e)
-cut_once c [] b (y ∷ p) q e wa wp = absurd (wp 0 (omega arith) (sym (same_head c y b (p ++ c ∷ q) e)))
-cut_once c (x ∷ a) b [] q e wa wp = absurd (wa 0 (omega arith) (same_head x c (a ++ c ∷ b) q e))
+cut_once c [] b [] q e wa wp = (refl, same_rest c c b q e)
+cut_once c [] b (y ∷ p) q e wa wp = absurd (wp 0 (omega arith) (sym (same_first c y b (p ++ c ∷ q) e)))
+cut_once c (x ∷ a) b [] q e wa wp = absurd (wa 0 (omega arith) (same_first x c (a ++ c ∷ b) q e))
 cut_once c (x ∷ a) b (y ∷ p) q e wa wp =
-    let h = same_head x y (a ++ c ∷ b) (p ++ c ∷ q) e in
-    let t = cut_once c a b p q (same_tail x y (a ++ c ∷ b) (p ++ c ∷ q) e)
+    let h = same_first x y (a ++ c ∷ b) (p ++ c ∷ q) e in
+    let t = cut_once c a b p q (same_rest x y (a ++ c ∷ b) (p ++ c ∷ q) e)
     (rest_without c x a wa) (rest_without c y p wp) in
     ((λ i. h i ∷ t.0 i), t.1)
 

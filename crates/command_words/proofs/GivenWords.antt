@@ -5,7 +5,7 @@ use Rattle.std.proofs.lemmas.Bool.{eqb-false, or_parts}
 use Rattle.command_words.specs.Words.{Given, given_words}
 use Rattle.command_words.specs.Parts.{IsWithout}
 use Rattle.command_words.specs.Slots.{option_names}
-use Rattle.command_words.proofs.Cuts.{cut_once, no_parts}
+use Rattle.command_words.proofs.Cuts.{cut_once, no_parts, same_first, same_rest}
 
 -- the dashes before a name
 abbrev pub dashed : List ℕ → List ℕ
@@ -58,14 +58,8 @@ one_word name value = ((codes "--" ++ name) ++ codes "=") ++ value
 one_word_is : (name value : List ℕ) → ((codes "--" ++ name) ++ codes "=") ++ value ≡ dashed (name ++ 61 ∷ value)
 one_word_is name value = append_assoc (dashed name) (61 ∷ []) value
 
-same_dashed : (a b : List ℕ) → dashed a ≡ dashed b → a ≡ b
+pub same_dashed : (a b : List ℕ) → dashed a ≡ dashed b → a ≡ b
 same_dashed a b e = cc
-
-same_first : {X : Type 0} (x y : X) (xs ys : List X) → x ∷ xs ≡ y ∷ ys → x ≡ y
-same_first x y xs ys e = cc
-
-same_rest : {X : Type 0} (x y : X) (xs ys : List X) → x ∷ xs ≡ y ∷ ys → xs ≡ ys
-same_rest x y xs ys e = cc
 
 -- what the words of an option are, by its form
 pub data Form (o : Given) (rest : List (List ℕ)) (words : List (List ℕ)) : Type 0 where

@@ -1,10 +1,12 @@
 -- Words give options in one way, so what was read so far begins every reading.
 use Rattle.std.proofs.Common.{◌≡◌, ◌≢◌, ℕ, zero, suc, List, [], ◌∷◌, ◌++◌, All, AllPairs, Contains, refl, sym, ap, ◌∙◌, subst, append_assoc, append-nil, arith}
 use Rattle.std.specs.List.{flat_map}
+use Rattle.std.proofs.lemmas.List.Elements.{All-tail}
+use Rattle.agglo_model.proofs.Members.{contains_head, contains_tail, all_pairs_tail, all_pairs_head}
 use Rattle.command_words.specs.Words.{Given, given_words}
 use Rattle.command_words.specs.Slots.{option_names}
 use Rattle.command_words.proofs.GivenWords.{same_option, form_of, no_words}
-use Rattle.command_words.proofs.Slots.{AreKnownOnce, contains_head, contains_tail, all_at, all_tail, pairs_tail, pairs_head}
+use Rattle.command_words.proofs.Slots.{AreKnownOnce}
 
 -- the same names and values, one after another
 pub SamePairs : List Given → List Given → Type 0
@@ -41,7 +43,7 @@ begins_with (o ∷ given) (p ∷ options) rest words e f known others =
     (form_of o (flat_map given_words given ++ rest) words (e ∙ append_assoc (given_words o) (flat_map given_words given) rest))
     (form_of p (flat_map given_words options) words f) in
     let later = begins_with given options rest (flat_map given_words options) (sym same.rests) refl
-    (all_tail (λ q. Contains option_names q.name) o given known) (all_tail (λ q. Contains option_names q.name) p options others) in
+    (All-tail (λ q. Contains option_names q.name) o given known) (All-tail (λ q. Contains option_names q.name) p options others) in
     record {
       front = p ∷ later.front;
       tail = later.tail;
@@ -60,7 +62,7 @@ given_there (q ∷ given) (p ∷ front) same o (zero, lt, is) =
     (p, contains_head p front, sym same.0 ∙ ap (λ (g : Given). g.name) is, sym same.1 ∙ ap (λ (g : Given). g.value) is)
 given_there (q ∷ given) (p ∷ front) same o (suc k, lt, is) =
     let later = given_there given front same.2 o (k, omega arith, is) in
-    (later.0, contains_tail later.0 p front later.1, later.2, later.3)
+    (later.0, contains_tail p later.0 front later.1, later.2, later.3)
 
 -- and the other way round
 pub same_swap : (given front : List Given) → SamePairs given front → SamePairs front given
@@ -72,7 +74,7 @@ same_swap (o ∷ given) (p ∷ front) same = (sym same.0, sym same.1, same_swap 
 
 contains_middle : (front : List Given) (o : Given) (more : List Given) → Contains (front ++ o ∷ more) o
 contains_middle [] o more = contains_head o more
-contains_middle (q ∷ front) o more = contains_tail o q (front ++ o ∷ more) (contains_middle front o more)
+contains_middle (q ∷ front) o more = contains_tail q o (front ++ o ∷ more) (contains_middle front o more)
 
 -- of options that differ in names, those of the front differ from the first of the tail
 pub apart_from_front : (front : List Given) (o : Given) (more : List Given) → AllPairs (λ p q. p.name ≢ q.name) (front ++ o ∷ more)
@@ -80,10 +82,9 @@ pub apart_from_front : (front : List Given) (o : Given) (more : List Given) → 
 apart_from_front [] o more once p (k, lt, is) = absurd (omega arith)
 apart_from_front (q ∷ front) o more once p (zero, lt, is) =
     subst (λ (g : Given). g.name ≢ o.name) is
-    (all_at (λ r. q.name ≢ r.name) (front ++ o ∷ more) (pairs_head (λ p q. p.name ≢ q.name) q (front ++ o ∷ more) once)
-    o (contains_middle front o more))
+    (all_pairs_head (λ p q. p.name ≢ q.name) q o (front ++ o ∷ more) once (contains_middle front o more))
 apart_from_front (q ∷ front) o more once p (suc k, lt, is) =
-    apart_from_front front o more (pairs_tail (λ p q. p.name ≢ q.name) q (front ++ o ∷ more) once) p (k, omega arith, is)
+    apart_from_front front o more (all_pairs_tail (λ p q. p.name ≢ q.name) q (front ++ o ∷ more) once) p (k, omega arith, is)
 
 no_tail_left : (tail : List Given) → [] ≡ flat_map given_words tail → All (λ o. Contains option_names o.name) tail → tail ≡ []
 no_tail_left [] e known = refl
@@ -91,7 +92,7 @@ no_tail_left (o ∷ tail) e known = absurd (no_words o (flat_map given_words tai
 
 all_of_tail : (front tail : List Given) → All (λ o. Contains option_names o.name) (front ++ tail) → All (λ o. Contains option_names o.name) tail
 all_of_tail [] tail all = all
-all_of_tail (q ∷ front) tail all = all_of_tail front tail (all_tail (λ o. Contains option_names o.name) q (front ++ tail) all)
+all_of_tail (q ∷ front) tail all = all_of_tail front tail (All-tail (λ o. Contains option_names o.name) q (front ++ tail) all)
 
 -- two readings of the same words give the same names the same values
 pub one_reading : (given options : List Given) (words : List (List ℕ)) → words ≡ flat_map given_words given

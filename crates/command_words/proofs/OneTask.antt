@@ -5,10 +5,10 @@ use Rattle.agglo_model.specs.Axes.{Axes}
 use Rattle.agglo_model.specs.PairOrder.{Threshold}
 use Rattle.command_words.specs.Words.{Given, given_words, HasValue, HasName, HasNumber, HasFraction, HasSizes, HasAxes, IsFraction, AreSizes, SpellsAxes, AreSomeSizes, SizesAreSome, digits_number, BasinsSettings, SegmentSettings, MakeSettings, TrialSettings, GivesBasins, GivesSegment, GivesMake, GivesTrial, Task, Basins, Segment, Make, Trial, Show, command_of, Gives, Spells}
 use Rattle.command_words.proofs.Slots.{AreKnownOnce}
-use Rattle.command_words.proofs.Cuts.{fraction_once, sizes_once, axes_once}
+use Rattle.command_words.proofs.Cuts.{fraction_once, sizes_once, axes_once, same_first, same_rest}
 use Rattle.command_words.proofs.GivenValues.{same_value}
 use Rattle.command_words.proofs.OneReading.{SamePairs, one_reading, given_there}
-use Rattle.command_words.proofs.WholeWords.{apart, gives_known, head_is, tail_is}
+use Rattle.command_words.proofs.WholeWords.{apart, gives_known}
 
 -- two readings of the same options
 record AreSame (given options : List Given) : Type 0 where
@@ -113,14 +113,14 @@ pub one_task : (words : List (List ℕ)) (a b : Task) → Spells words a → Spe
 one_task words a b s t =
     let both : command_of a ∷ flat_map given_words s.options ≡ command_of b ∷ flat_map given_words t.options =
     sym s.words_are ∙ t.words_are in
-    let rests = tail_is (command_of a) (command_of b) (flat_map given_words s.options) (flat_map given_words t.options) both in
+    let rests = same_rest (command_of a) (command_of b) (flat_map given_words s.options) (flat_map given_words t.options) both in
     let known = gives_known t.options b t.gives in
     let same : AreSame s.options t.options = record {
       pairs = one_reading s.options t.options (flat_map given_words s.options) refl rests (gives_known s.options a s.gives) known;
       known = known;
     } in
     tasks_same s.options t.options same a b
-    (head_is (command_of a) (command_of b) (flat_map given_words s.options) (flat_map given_words t.options) both) s.gives t.gives
+    (same_first (command_of a) (command_of b) (flat_map given_words s.options) (flat_map given_words t.options) both) s.gives t.gives
 
 sizes_some : (word sizes : List ℕ) → AreSizes word sizes → AreSomeSizes sizes
 sizes_some word sizes a = subst AreSomeSizes (sym a.sizes_are)

@@ -7,6 +7,9 @@ use Rattle.std.specs.Str.{bytes_eq}
 use denote.Ref.{Bor}
 use Rattle.std.proofs.lemmas.Bool.{or_parts}
 use Rattle.std.proofs.lemmas.Slice.Eq.{bytes_eq-Decides}
+use Rattle.std.proofs.lemmas.List.Elements.{All-tail, All-cons}
+use Rattle.std.proofs.Math.Bool.{or-true}
+use Rattle.agglo_model.proofs.Members.{contains_head, contains_tail}
 use Rattle.clap.specs.Walk.{Held, Row, Text, finished, first_of, has_row, nothing_held, rows_after, settled, walk, with_default}
 use Rattle.clap.specs.Walk.{rows_of}
 use Rattle.clap.specs.Simple.{App, is_simple, built, entered, matches_of, names_of}
@@ -26,7 +29,7 @@ use Rattle.clap.specs.declared.error.kind.ErrorKind.TheVariants as kind
 use Rattle.command_words.specs.Words.{Given, given_words, AreOptionsOf, HasValue, IsBare, Dashes}
 use Rattle.command_words.specs.Slots.{IsMissing, IsSlot, ReadsOptions, RefusesOptions, slot_of, spelled}
 use Rattle.command_words.specs.Parser.{parser_of, IsPlain, IsOptionName}
-use Rattle.command_words.proofs.Slots.{spelled_known, all_tail, contains_head, contains_tail}
+use Rattle.command_words.proofs.Slots.{spelled_known}
 use Rattle.command_words.proofs.ParserRules.{built_rule, built_shape, built_is, is_known_parser, row_of, AreSome}
 use Rattle.command_words.proofs.GivenWords.{known_filled, known_without}
 use Rattle.command_words.proofs.ParserTurns.{with_pending}
@@ -34,10 +37,6 @@ use Rattle.command_words.proofs.ParserReads.{walk_of, Ready, end_of, both_empty,
 use Rattle.command_words.proofs.ParserTakes.{takes_all, settles, settled_at}
 
 -- ---- after the words
-
-or_true : (b : Bool) → (b || true) ≡ true
-or_true true = refl
-or_true false = refl
 
 no_default : (name : Text) (rows : List Row) → with_default rows (built_rule name) ≡ rows
 no_default name rows = by_test (has_row name rows)
@@ -55,7 +54,7 @@ unfolding defaults_fault
 no_default_fault [] rows = refl
 no_default_fault (name ∷ names) rows =
     ap (λ b. or_else (cond b [] (given_default_fault (built_rule name) [])) (defaults_fault (with_default rows (built_rule name)) (map built_rule names)))
-    (or_true (has_row name rows))
+    (or-true (has_row name rows))
     ∙ no_default_fault names (with_default rows (built_rule name))
 
 -- some option of these is not given
@@ -118,7 +117,7 @@ row_named (o ∷ given) name has = by_test (bytes_eq o.name name) refl (row_name
         → (bytes_eq o.name name || has_row name (map row_of given)) ≡ true → Contains (map (λ p. p.name) (o ∷ given)) name
     by_test true e later both = subst (Contains (map (λ p. p.name) (o ∷ given))) ((bytes_eq-Decides o.name name).0 e)
         (contains_head o.name (map (λ p. p.name) given))
-    by_test false e later both = contains_tail name o.name (map (λ p. p.name) given) (later (rw e at both))
+    by_test false e later both = contains_tail o.name name (map (λ p. p.name) given) (later (rw e at both))
 
 named_row : (given : List Given) (name : Text) → Contains (map (λ o. o.name) given) name → has_row name (map row_of given) ≡ true
 named_row [] name (k, lt, is) = absurd (omega arith)
@@ -147,7 +146,7 @@ given_all : (names : List Text) (given : List Given) → All (λ name. Contains 
 given_all [] given all = refl
 given_all (name ∷ names) given all =
     let here : is_given name (map row_of given) ≡ true = given_row given name ∙ named_row given name (all 0 name (omega arith)) in
-    let rest = given_all names given (all_tail (Contains (map (λ o. o.name) given)) name names all) in
+    let rest = given_all names given (All-tail (Contains (map (λ o. o.name) given)) name names all) in
     λ i. not (here i) || rest i
 
 -- ---- what an answer says
@@ -203,10 +202,6 @@ no_fault command names words given named are options plain =
 
 -- ---- values
 
-all_more : {X : Type 0} (P : X → Type 0) (x : X) (xs : List X) → P x → All P xs → All P (x ∷ xs)
-all_more P x xs here all zero d lt = here
-all_more P x xs here all (suc k) d lt = all k d (omega arith)
-
 abbrev IsFirst : List Given → Text → Option Text → Type 0
 IsFirst given name first = MatchOption first (IsMissing given name) (HasValue given name)
 
@@ -215,8 +210,8 @@ first_slot [] name = λ k d lt. absurd (omega arith)
 first_slot (o ∷ given) name = by_test (bytes_eq o.name name) refl (first_slot given name)
   where
     later : (other : bytes_eq o.name name ≡ false) (first : Option Text) → IsFirst given name first → IsFirst (o ∷ given) name first
-    later other None missing = all_more (λ p. p.name ≢ name) o given (λ is. true≢false (sym ((bytes_eq-Decides o.name name).1 is) ∙ other)) missing
-    later other (Some v) (p, there, named, valued) = (p, contains_tail p o given there, named, valued)
+    later other None missing = All-cons (λ p. p.name ≢ name) o given (λ is. true≢false (sym ((bytes_eq-Decides o.name name).1 is) ∙ other)) missing
+    later other (Some v) (p, there, named, valued) = (p, contains_tail o p given there, named, valued)
 
     by_test : (b : Bool) → bytes_eq o.name name ≡ b → IsFirst given name (first_of name (map row_of given))
         → IsFirst (o ∷ given) name (option_and_then (λ (r : Row). slice_get r.values 0)

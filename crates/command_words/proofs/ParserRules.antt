@@ -6,6 +6,7 @@ use Rattle.std.specs.Str.{bytes_eq}
 use Rattle.std.proofs.lemmas.Bool.{or_parts}
 use Rattle.std.proofs.lemmas.List.{map-append, take_more}
 use Rattle.std.proofs.lemmas.Slice.Eq.{bytes_eq-Decides}
+use Rattle.std.proofs.lemmas.List.Elements.{All-tail}
 use Rattle.clap.specs.Walk.{Rule, Row, Text, arg_by_id, arg_by_long, arg_by_short, arg_by_index, used, has_row, without, at_row, is_early_multiple}
 use Rattle.clap.specs.Walk.{with_values, more_values, has_long}
 use Rattle.clap.specs.Simple.{App, Shape, new_shape, built, filled_from, is_buildable, is_ready, is_ready_leaf, with_rule}
@@ -19,7 +20,6 @@ use Rattle.clap.specs.declared.error.kind.ErrorKind.TheVariants as kind
 use Rattle.command_words.specs.Words.{Given}
 use Rattle.command_words.specs.declared.options.OptionName.{OptionName}
 use Rattle.command_words.specs.Slots.{IsMissing, spelled}
-use Rattle.command_words.proofs.Slots.{all_tail}
 use Rattle.command_words.specs.Parser.{option_rule, parser_of}
 
 -- an option as the parser has it once it is built
@@ -135,7 +135,7 @@ missing_row (o ∷ given) name none (suc k) d lt =
 
 pub row_missing : (given : List Given) (name : Text) → IsMissing given name → has_row name (map row_of given) ≡ false
 row_missing [] name none = refl
-row_missing (o ∷ given) name none = by_test (bytes_eq o.name name) refl (row_missing given name (all_tail (λ p. p.name ≢ name) o given none))
+row_missing (o ∷ given) name none = by_test (bytes_eq o.name name) refl (row_missing given name (All-tail (λ p. p.name ≢ name) o given none))
   where
     by_test : (b : Bool) → bytes_eq o.name name ≡ b → has_row name (map row_of given) ≡ false
         → (bytes_eq o.name name || has_row name (map row_of given)) ≡ false

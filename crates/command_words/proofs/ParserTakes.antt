@@ -5,6 +5,8 @@ use Rattle.std.specs.Option.{option_map_or}
 use Rattle.std.specs.Str.{bytes_eq}
 use Rattle.std.proofs.lemmas.Bool.Decides.{nat_tests}
 use Rattle.std.proofs.lemmas.List.{get_or_default}
+use Rattle.std.proofs.lemmas.List.Elements.{Contains-push, All-tail, All-contains}
+use Rattle.agglo_model.proofs.Members.{all_pairs_tail}
 use Rattle.clap.specs.Lexer.{long_of, short_of}
 use Rattle.clap.specs.Walk.{Held, Step, Text, idle, option, after_step, settled, short_or_plain, used, walked}
 use Rattle.clap.specs.Faults.{settle_fault, step_fault, turn_fault, use_fault, flags_fault, walk_fault}
@@ -13,7 +15,6 @@ use Rattle.clap.specs.declared.error.kind.ErrorKind.TheVariants as kind
 use Rattle.command_words.specs.Words.{Given, given_words}
 use Rattle.command_words.specs.Slots.{IsMissing}
 use Rattle.command_words.specs.Parser.{IsPlain, IsOptionName}
-use Rattle.command_words.proofs.Slots.{all_at, all_tail, contains_last, pairs_head, pairs_tail}
 use Rattle.command_words.proofs.OneReading.{apart_from_front}
 use Rattle.command_words.proofs.GivenWords.{dashed, OneWord, TwoWords, form_of}
 use Rattle.command_words.proofs.LongWords.{long_alone, long_of_parts, no_equals}
@@ -26,7 +27,10 @@ use Rattle.command_words.proofs.ParserReads.{walk_of, Ready, Waits, end_of}
 all_front : {X : Type 0} (P : X → Type 0) (a b : List X) → All P (a ++ b) → All P a
 all_front P [] b all k d lt = absurd (omega arith)
 all_front P (x ∷ a) b all zero d lt = all 0 d (omega arith)
-all_front P (x ∷ a) b all (suc k) d lt = all_front P a b (all_tail P x (a ++ b) all) k d (omega arith)
+all_front P (x ∷ a) b all (suc k) d lt = all_front P a b (All-tail P x (a ++ b) all) k d (omega arith)
+
+pairs_head : {X : Type 0} (R : X → X → Type 0) (x : X) (xs : List X) → AllPairs R (x ∷ xs) → All (R x) xs
+pairs_head R x xs pairs k d lt = pairs 0 (suc k) d (omega arith) (omega arith)
 
 pairs_front : {X : Type 0} (R : X → X → Type 0) (a b : List X) → AllPairs R (a ++ b) → AllPairs R a
 pairs_front R [] b pairs i j d order lt = absurd (omega arith)
@@ -34,7 +38,7 @@ pairs_front R (x ∷ a) b pairs zero zero d order lt = absurd (omega arith)
 pairs_front R (x ∷ a) b pairs zero (suc j) d order lt = all_front (R x) a b (pairs_head R x (a ++ b) pairs) j d (omega arith)
 pairs_front R (x ∷ a) b pairs (suc i) zero d order lt = absurd (omega arith)
 pairs_front R (x ∷ a) b pairs (suc i) (suc j) d order lt =
-    pairs_front R a b (pairs_tail R x (a ++ b) pairs) i j d (omega arith) (omega arith)
+    pairs_front R a b (all_pairs_tail R x (a ++ b) pairs) i j d (omega arith) (omega arith)
 
 some_front : (names : List Text) (a b : List Given) → AreSome names (a ++ b) → AreSome names a
 some_front names a b some = record {
@@ -51,7 +55,7 @@ missing_before names given o more some k d lt =
 known_pending : (names : List Text) (given : List Given) (pending : Option Given) → AreSome names (with_pending given pending)
     → IfSome pending (λ o. Contains names o.name)
 known_pending names given None some = tt
-known_pending names given (Some o) some = all_at (λ p. Contains names p.name) (given ++ o ∷ []) some.known o (contains_last o given)
+known_pending names given (Some o) some = All-contains (λ p. Contains names p.name) (given ++ o ∷ []) o some.known (Contains-push given o)
 
 without_pending : (names : List Text) (given : List Given) (pending : Option Given) → AreSome names (with_pending given pending) → AreSome names given
 without_pending names given None some = some
@@ -183,9 +187,9 @@ takes_all command names named [] plain given pending words e some = subst (Takes
   held = refl;
 })
 takes_all command names named (o ∷ more) plain given pending words e some =
-    let known = all_at (λ p. Contains names p.name) (with_pending given pending ++ o ∷ more) some.known o (middle (with_pending given pending)) in
-    let name = all_at IsOptionName names named o.name known in
-    let later = takes_all command names named more (all_tail (λ p. IsPlain p.value) o more plain) in
+    let known = All-contains (λ p. Contains names p.name) (with_pending given pending ++ o ∷ more) o some.known (middle (with_pending given pending)) in
+    let name = All-contains IsOptionName names o.name named known in
+    let later = takes_all command names named more (All-tail (λ p. IsPlain p.value) o more plain) in
     elim (form_of o (flat_map given_words more) words e) [
       | OneWord f ↦ subst (TakesAll command names given pending (o ∷ more)) (sym f)
           (one_word command names given pending o more (flat_map given_words more) refl some name known later)

@@ -5,6 +5,8 @@ use Rattle.std.specs.Str.{bytes_eq, chars}
 use Rattle.std.specs.Prelude.{slice_get, drop, encode_utf8, nat_lt}
 use Rattle.clap.specs.declared.error.kind.ErrorKind.{ErrorKind}
 use Rattle.std.proofs.lemmas.Slice.Eq.{bytes_eq-Decides}
+use Rattle.std.proofs.lemmas.List.Quantifiers.{all_pairs_push}
+use Rattle.std.proofs.lemmas.List.Elements.{All-push}
 use Rattle.clap.specs.Lexer.{long_of, short_of}
 use Rattle.clap.specs.Walk.{Held, Rule, Row, Step, Text, Waiting, Walk, idle, option, positional, next, trailing, plain, arg_by_id, arg_by_long, after_flag, after_step, bundle_met, bundle_step, has_row, long_met, long_or_other, option_word, plain_word, pushed, reacted, settled, used_by_id, short_or_plain, subcommand_met, subcommand_or_other, walked}
 use Rattle.clap.specs.Simple.{Shape}
@@ -13,7 +15,6 @@ use Rattle.clap.specs.Kinds.{Kinds, or_else}
 use Rattle.clap.specs.declared.error.kind.ErrorKind.TheVariants as kind
 use Rattle.command_words.specs.Words.{Given}
 use Rattle.command_words.specs.Slots.{IsMissing}
-use Rattle.command_words.proofs.Slots.{all_push, pairs_push}
 use Rattle.command_words.proofs.ParserRules.{built_rule, built_shape, is_name_of, rule_by_id, rule_by_long, no_rule_by_short, no_rule_by_index, row_of, AreSome, missing_row, row_added, or_none, use_is}
 
 -- between two words, with nothing of what comes after the options
@@ -101,8 +102,8 @@ pub record IsSettled (names : List Text) (given : List Given) (pending : Option 
 pub some_push : (names : List Text) (given : List Given) (o : Given) → AreSome names given → Contains names o.name → IsMissing given o.name
     → AreSome names (given ++ o ∷ [])
 some_push names given o some known none = record {
-  known = all_push (λ p. Contains names p.name) given o some.known known;
-  once = pairs_push (λ p q. p.name ≢ q.name) given o some.once none;
+  known = All-push (λ p. Contains names p.name) given o some.known known;
+  once = all_pairs_push (λ p q. p.name ≢ q.name) given o some.once none;
 }
 
 pub settle_is : (names : List Text) (given : List Given) (o : Given) → Contains names o.name

@@ -5,6 +5,7 @@ use Rattle.std.specs.Str.{bytes_eq}
 use denote.Ref.{Bor}
 use Rattle.std.proofs.lemmas.List.{get_or_default}
 use Rattle.std.proofs.lemmas.Slice.Eq.{bytes_eq-Decides}
+use Rattle.std.proofs.lemmas.List.Elements.{All-contains}
 use Rattle.command_words.specs.Words.{Given, given_words, AreOptionsOf, Task, Basins, Segment, Make, Trial, Show, command_of, options_of, Gives, GivesBasins, GivesSegment, GivesMake, GivesTrial, GivesShow, BasinsSettings, SegmentSettings, MakeSettings, TrialSettings, commands, basins_options, segment_options, make_options, trial_options, show_options, AreNoSettings, IsBare, MayBeSettings}
 use Rattle.command_words.specs.declared.settings.SegmentValues.{SegmentValues}
 use Rattle.command_words.specs.declared.job.Job.{Job}
@@ -12,9 +13,10 @@ use Rattle.command_words.specs.declared.job.WordsFault.{WordsFault}
 use Rattle.command_words.specs.declared.job.WordsFault.TheVariants.{NoSettings, Memory}
 use Rattle.command_words.specs.Jobs.{RefusesWords, AnswersWords}
 use Rattle.command_words.specs.Slots.{option_names, spelled, slot_of, IsSlot, AreSlots, ReadsOptions, RefusesOptions}
-use Rattle.command_words.proofs.Slots.{AreKnownOnce, all_at}
+use Rattle.command_words.proofs.Slots.{AreKnownOnce}
 use Rattle.command_words.proofs.OneReading.{SamePairs, one_reading, given_there, same_swap}
 use Rattle.command_words.proofs.PlainValues.{values_are_names}
+use Rattle.command_words.proofs.Cuts.{same_first, same_rest}
 
 -- ---- options of a command are known, each given once
 
@@ -55,7 +57,7 @@ show_known (suc k) d lt = absurd (omega arith)
 
 known_from : (names : List (List ℕ)) (given : List Given) → All (Contains option_names) names → AreOptionsOf names given → AreKnownOnce given
 known_from names given known are = record {
-  known = λ k d lt. all_at (Contains option_names) names known (get_or given k d).name (are.known k d lt);
+  known = λ k d lt. All-contains (Contains option_names) names (get_or given k d).name known (are.known k d lt);
   once = are.once;
 }
 
@@ -86,7 +88,7 @@ slot_same : (given options : List Given) (name : List ℕ) (slot : Option (Bor (
     → IsSlot given name slot → IsSlot options name slot
 slot_same given options name None same none = λ k o lt named.
     let back = given_there options given (same_swap given options same) (get_or options k o) (k, lt, get_or_default options k (get_or options k o) o lt) in
-    all_at (λ p. p.name ≢ name) given none back.0 back.1 (back.2 ∙ named)
+    All-contains (λ p. p.name ≢ name) given back.0 none back.1 (back.2 ∙ named)
 slot_same given options name (Some value) same (o, there, named, valued) =
     let on = given_there given options same o there in
     (on.0, on.1, on.2 ∙ named, on.3 ∙ valued)
@@ -99,12 +101,6 @@ slots_same given options values same known slots = record {
 }
 
 -- ---- words
-
-pub head_is : (x y : List ℕ) (xs ys : List (List ℕ)) → x ∷ xs ≡ y ∷ ys → x ≡ y
-head_is x y xs ys e = cc
-
-pub tail_is : (x y : List ℕ) (xs ys : List (List ℕ)) → x ∷ xs ≡ y ∷ ys → xs ≡ ys
-tail_is x y xs ys e = cc
 
 -- a test tells texts apart
 pub apart : (a b : List ℕ) → bytes_eq a b ≡ false → a ≢ b
@@ -173,10 +169,10 @@ pub refused_options : (command : List ℕ) (names words : List (List ℕ)) (faul
     → All (λ word. ¬ (IsBare word)) words → RefusesOptions names words fault → RefusesWords (command ∷ words) fault
 refused_options command names words NoSettings row none refuses = λ task s.
     refuses s.options
-    (subst (λ n. AreOptionsOf n s.options) (row.options task (sym (head_is command (command_of task) words (flat_map given_words s.options) s.words_are)))
+    (subst (λ n. AreOptionsOf n s.options) (row.options task (sym (same_first command (command_of task) words (flat_map given_words s.options) s.words_are)))
     (gives_options s.options task s.gives))
     (values_are_names s.options task s.gives)
-    (tail_is command (command_of task) words (flat_map given_words s.options) s.words_are)
+    (same_rest command (command_of task) words (flat_map given_words s.options) s.words_are)
 refused_options command names words Memory row none refuses = may_be command words row.known none
 
 -- the same fault again
@@ -192,10 +188,10 @@ pub refused_values : (command : List ℕ) (names words : List (List ℕ)) (value
     → ((given : List Given) → AreSlots given values → AreOptionsOf names given → (task : Task) → command_of task ≡ command → ¬ (Gives given task))
     → AreNoSettings (command ∷ words)
 refused_values command names words values row read refuses task s =
-    let is = sym (head_is command (command_of task) words (flat_map given_words s.options) s.words_are) in
+    let is = sym (same_first command (command_of task) words (flat_map given_words s.options) s.words_are) in
     let known = gives_known s.options task s.gives in
     let same = one_reading read.options s.options words read.words_are
-    (tail_is command (command_of task) words (flat_map given_words s.options) s.words_are)
+    (same_rest command (command_of task) words (flat_map given_words s.options) s.words_are)
     (known_from names read.options row.names_known read.options_are) known in
     refuses s.options (slots_same read.options s.options values same known read.slots)
     (subst (λ n. AreOptionsOf n s.options) (row.options task is) (gives_options s.options task s.gives)) task is s.gives

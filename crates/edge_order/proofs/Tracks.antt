@@ -1,6 +1,6 @@
 -- The greatest key of a voxel's edges, kept while the six are looked at in ascending order of number.
 use Rattle.std.proofs.Common.{◌≡◌, ◌≢◌, ℕ, ◌+◌, ◌*◌, ◌/◌, ◌%◌, ◌^◌, ◌<◌, ◌≤◌, ◌⊎◌, ◌==◌, ◌&&◌, ◌||◌, if◌then◌else◌, Bool, true, false, nat_le, nat_lt, max, List, [], ◌∷◌, Some, MatchOption, refl, sym, ◌∙◌, ap, subst, inl, inr, arith, add-zero, lit<, ltb-true, ltb-false, le-mul_of_pos_right}
-use Rattle.std.proofs.lemmas.Bool.{cases_lt, cases_eq}
+use Rattle.std.proofs.lemmas.Bool.{cases_lt, cases_eq, false_from_ne_true}
 use Rattle.std.proofs.lemmas.Bool.Decides.{nat_tests}
 use Rattle.agglo_model.specs.Axes.{Axes, IsWithinLimits, voxel_at, voxel_count, coordinate, edge_count, is_edge}
 use Rattle.agglo_model.specs.Grid.{Grid, affinity}
@@ -153,10 +153,6 @@ stays : (g : Grid) (low v : ℕ) → ((f : ℕ) → IsIn f (edges_at g.axes v) �
     → IsBestStep g low v Stay
 stays g low v weak = no_strong_no_best g low v (none_at g low v weak)
 
-not_strong : (b : Bool) → (b ≡ true → ⊥) → b ≡ false
-not_strong true h = absurd (h refl)
-not_strong false h = refl
-
 at_least_zero : (i : Bool) (low a : ℕ) → (i && nat_le low a) ≡ true → (i && nat_le 0 a) ≡ true
 at_least_zero i low a t = any_strong i a (strong_tells i low a t).0
 
@@ -172,7 +168,7 @@ strong_best g low v e b le = best_at g low v e (record {
 -- and else there is none
 none_strong : (g : Grid) (low v e : ℕ) → IsBestIn g 0 (seen_six g.axes v) e → affinity g e < low
     → (f : ℕ) → IsIn f (edges_at g.axes v) → is_strong g low f ≡ false
-none_strong g low v e b less f m = not_strong (is_strong g low f) (λ s. refuse s (cases_eq f e))
+none_strong g low v e b less f m = false_from_ne_true (is_strong g low f) (λ s. refuse s (cases_eq f e))
   where
     over : is_strong g low f ≡ true → low ≤ affinity g f
     over s = (strong_tells (is_edge g.axes f) low (affinity g f) s).1
@@ -193,7 +189,7 @@ tracks_all g low v r k (NoEdge zero none) =
     (stays g low v (λ f m. weaker f (none f (in_six g.axes v f m)))))
   where
     weaker : (f : ℕ) → is_strong g 0 f ≡ false → is_strong g low f ≡ false
-    weaker f weak = not_strong (is_strong g low f) (λ s.
+    weaker f weak = false_from_ne_true (is_strong g low f) (λ s.
         clash (is_strong g 0 f) (at_least_zero (is_edge g.axes f) low (affinity g f) s) weak)
 tracks_all g low v r k (AnEdge s e h) = pick (nat_lt (affinity g e) low) refl
   where

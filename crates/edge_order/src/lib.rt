@@ -7,8 +7,6 @@
 mod best;
 mod rows;
 mod step;
-#[cfg(test)]
-mod tests;
 
 pub use best::{best_edge, best_step, stronger};
 pub use rows::{best_steps, cell_steps};

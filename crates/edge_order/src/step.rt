@@ -6,7 +6,7 @@ ghost use Rattle.edge_order.specs.Steps.{LeadsTo, edge_at, leads_within, reverse
 use seg_base::Dims;
 
 /// One of the six edges of a voxel, by where it leads. It takes one byte.
-#[derive(Clone, Copy, Debug, PartialEq, Eq)]
+#[derive(Clone, Copy, PartialEq)]
 pub enum Step {
     /// None of the edges.
     Stay,

@@ -1,21 +1,19 @@
 -- The leaves of a cutting and their cells.
-use Rattle.std.proofs.Common.{◌≡◌, ℕ, ◌<◌, List, length, get_or, sym, ◌∙◌, subst, arith, [], ◌∷◌, ◌++◌, ◌⊎◌, inl, inr, eq-or-lt_of_le}
-use Rattle.std.proofs.lemmas.List.{length_push, get_or_push, get_or_append_left}
+use Rattle.std.proofs.Common.{ℕ, ◌<◌, sym, subst}
 use Rattle.agglo_model.specs.Axes.{voxel_count}
 use Rattle.agglo_model.specs.Boxes.{IsBoxOf}
 use Rattle.agglo_model.specs.Cell.{IsInBox}
-use Rattle.agglo_model.specs.Cutting.{Chunking, cells_at, leaf_of, low_corner, high_corner}
-use Rattle.agglo_model.specs.Grid.{Grid}
+use Rattle.agglo_model.specs.Cutting.{cells_at, leaf_of, low_corner, high_corner}
 use Rattle.agglo_model.proofs.BoxPlaces.{IsBoxPlace, box_voxel-lt, place_of_box}
-use Rattle.steepest_ascent.specs.CellEnds.{CellEnds}
-use Rattle.face_pointers.specs.Pieces.{IsCut, IsLeafClimb, Parts, leaf_grid, leaf_voxel}
-use Rattle.face_pointers.proofs.LeafBoxes.{cell_is_box, leaf_holds, leaf_is_node, leaf_of-lt}
+use Rattle.agglo_model.proofs.WaitingCells.{leaf_below}
+use Rattle.face_pointers.specs.Pieces.{IsCut, Parts, leaf_grid, leaf_voxel}
+use Rattle.face_pointers.proofs.LeafBoxes.{cell_is_box, leaf_holds, leaf_of-lt}
 
 -- the cell of a leaf is a box of the volume
 pub leaf_is_box : (p : Parts) (m : ℕ) → IsCut p → m < cells_at p.cutting 0
     → IsBoxOf p.grid.axes (low_corner p.cutting m) (high_corner p.cutting m)
 leaf_is_box p m h leaf = subst (λ a. IsBoxOf a (low_corner p.cutting m) (high_corner p.cutting m)) h.axes
-    (cell_is_box p.cutting h.cutting m (leaf_is_node p.cutting m leaf))
+    (cell_is_box p.cutting h.cutting m (leaf_below p.cutting m leaf))
 
 -- each voxel has a leaf, which holds it
 pub has_leaf : (p : Parts) (v : ℕ) → IsCut p → v < voxel_count p.grid.axes → leaf_of p.cutting v < cells_at p.cutting 0
@@ -37,17 +35,3 @@ pub leaf_voxel-lt : (p : Parts) (m i : ℕ) → IsCut p → m < cells_at p.cutti
     → leaf_voxel p m i < voxel_count p.grid.axes
 leaf_voxel-lt p m i h leaf lt =
     box_voxel-lt p.grid.axes (low_corner p.cutting m) (high_corner p.cutting m) i h.whole.limits (leaf_is_box p m h leaf) lt
-
--- the climbs of the leaves so far, and of one more
-pub climb_more : (g : Grid) (low : ℕ) (t : Chunking) (m : ℕ) (pieces : List CellEnds) (piece : CellEnds)
-    → length pieces ≡ m → ((k : ℕ) (d : CellEnds) → k < length pieces → IsLeafClimb g low t k (get_or pieces k d))
-    → IsLeafClimb g low t m piece
-    → (k : ℕ) (d : CellEnds) → k < length (pieces ++ piece ∷ []) → IsLeafClimb g low t k (get_or (pieces ++ piece ∷ []) k d)
-climb_more g low t m pieces piece len done here k d lt = pick (eq-or-lt_of_le (omega (arith, length_push pieces piece)))
-  where
-    pick : (k ≡ length pieces) ⊎ (k < length pieces) → IsLeafClimb g low t k (get_or (pieces ++ piece ∷ []) k d)
-    pick (inl last) =
-        subst (λ q. IsLeafClimb g low t k q) (sym (get_or_push pieces piece d k (sym last)))
-        (subst (λ j. IsLeafClimb g low t j piece) (sym len ∙ sym last) here)
-    pick (inr less) =
-        subst (λ q. IsLeafClimb g low t k q) (sym (get_or_append_left pieces (piece ∷ []) d k less)) (done k d less)

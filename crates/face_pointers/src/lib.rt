@@ -7,7 +7,5 @@
 
 mod exits;
 mod resolving;
-#[cfg(test)]
-mod tests;
 
 pub use resolving::{climb_leaf, resolve, resolve_into};

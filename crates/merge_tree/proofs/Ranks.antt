@@ -3,11 +3,11 @@ use Rattle.std.proofs.Common.{◌≡◌, ◌⊎◌, inl, inr, ℕ, ◌+◌, ◌*
 use Rattle.std.specs.Prelude.{All, AllPairs, IsPermutation}
 use Rattle.std.specs.Cmp.{IsStrictWeakOrder}
 use Rattle.std.specs.List.Sorted.{IsSortedBy}
-use Rattle.std.proofs.Math.Nat.{mul-le-mul_right, le_of_mul-le-mul_left}
 use Rattle.std.proofs.lemmas.Bool.Decides.{nat_tests}
 use Rattle.std.proofs.lemmas.List.Sorted.{All-permutation, sorted_far}
 use Rattle.agglo_model.specs.Greedy.{Merge, RanksFirst}
 use Rattle.agglo_model.specs.MergeLaws.{AreFalling}
+use Rattle.agglo_model.proofs.Means.{falls}
 use Rattle.merge_tree.specs.Order.{DifferInRank, HasEdges, goes_first}
 use Rattle.merge_tree.proofs.Reordered.{AllPairs-permutation}
 
@@ -44,11 +44,7 @@ one_way m n h = grind (arith, nat_tests)
 
 -- means that do not fall
 rises : (s1 c1 s2 c2 s3 c3 : ℕ) → 0 < c2 → s1 * c2 ≤ s2 * c1 → s2 * c3 ≤ s3 * c2 → s1 * c3 ≤ s3 * c1
-rises s1 c1 s2 c2 s3 c3 pos one other =
-    let left = mul-le-mul_right c3 one in
-    let right = mul-le-mul_right c1 other in
-    let scaled : c2 * (s1 * c3) ≤ c2 * (s3 * c1) = omega (arith, left, right) in
-    le_of_mul-le-mul_left scaled pos
+rises s1 c1 s2 c2 s3 c3 pos one other = falls s3 c3 s2 c2 s1 c1 pos other one
 
 -- what is so where the second has an edge and the first does not go first
 record IsNotBefore (m n : Merge) : Type 0 where

@@ -9,8 +9,6 @@ mod label_file;
 mod merge;
 mod order;
 mod renaming;
-#[cfg(test)]
-mod tests;
 mod tree;
 mod tree_fault;
 mod tree_file;

@@ -2,7 +2,7 @@ use mean_fraction::Contact;
 use std::marker::Model;
 
 /// One merge of two regions.
-#[derive(Clone, Copy, Debug, PartialEq, Eq)]
+#[derive(Clone, Copy)]
 pub struct Merge {
     /// The name that stays. In a tree it is the smaller one.
     pub survivor: u32,

@@ -10,7 +10,7 @@ use thiserror::Error;
 
 /// Why no tree was read: the first that holds, in this order. The last four that name a record tell
 /// its number.
-#[derive(Clone, Copy, Debug, PartialEq, Eq, Error)]
+#[derive(Clone, Copy, Debug, Error)]
 pub enum TreeFault {
     /// There are so many bytes, fewer than a header has.
     #[error("the header has {0} bytes of 32")]
@@ -54,7 +54,7 @@ pub enum TreeFault {
 }
 
 /// Why bytes could not be read, whatever they are.
-#[derive(Clone, Copy, Debug, PartialEq, Eq)]
+#[derive(Clone, Copy)]
 pub enum InputFault {
     /// The input failed.
     Read,

@@ -38,7 +38,7 @@ impl Model for RawMerge {
 }
 
 /// What a header says of the records.
-#[derive(Clone, Copy, Debug, PartialEq, Eq)]
+#[derive(Clone, Copy)]
 pub struct Head {
     /// The axes of the volume.
     pub dims: Dims,

@@ -9,6 +9,7 @@ use Rattle.agglo_model.proofs.Members.{contains_none}
 use Rattle.mutual_merge.specs.declared.links.Link.{Link}
 use Rattle.mutual_merge.specs.Linked.{IsLink, IsAtPlace}
 use Rattle.mutual_merge.specs.Firsts.{IsFirstContact, IsFirst, AreFirsts, IsEarlier}
+use Rattle.mutual_merge.proofs.RegionPlaces.{place_cases}
 
 pub AreFirsts-none : (n : ℕ) → AreFirsts [] n (replicate n None)
 AreFirsts-none n = record {
@@ -72,9 +73,6 @@ IsFirst-more ls l k (Some d) earlier at_l counts some first (inr (same, before_d
     subst (IsFirst (ls ++ l ∷ []) k) (sym same)
     (itself ls l k at_l (λ m inside at_k before. first.none_before m inside at_k
     (before_trans m.contact l.contact d (counts m inside) some pos before before_d)))
-
-place_cases : (k a b : ℕ) → (k ≡ a) ⊎ (k ≡ b) ⊎ ((a ≢ k) × (b ≢ k))
-place_cases k a b = grind arith
 
 -- the first contacts after one more link
 pub AreFirsts-more : (ls : List Link) (l : Link) (n : ℕ) (firsts : List (Option Contact)) (one other : Option Contact)

@@ -1,19 +1,21 @@
 -- The places of regions among those that are kept, and the links between these.
-use Rattle.std.proofs.Common.{◌≡◌, ◌⊎◌, inl, inr, ℕ, ◌+◌, ◌<◌, ◌≤◌, Bool, true, false, ◌&&◌, List, [], ◌∷◌, ◌++◌, length, get_or, refl, sym, ap, ◌∙◌, subst, arith}
+use Rattle.std.proofs.Common.{◌≡◌, inl, inr, ℕ, ◌+◌, ◌<◌, ◌≤◌, Bool, true, false, ◌&&◌, List, [], ◌∷◌, ◌++◌, length, get_or, refl, sym, ap, ◌∙◌, subst, arith}
 use Rattle.std.specs.Prelude.{map, filter, sum_by, Contains, All}
 use Rattle.std.specs.List.{range_with_len}
 use Rattle.std.proofs.lemmas.List.{get_or_append_left, get_or_push, length_push}
 use Rattle.std.proofs.lemmas.List.Elements.{All-contains}
+use Rattle.std.proofs.lemmas.Bool.{and_parts, both_ways}
 use Rattle.agglo_model.specs.PairOrder.{Threshold}
 use Rattle.agglo_model.specs.RegionGraph.{Region, RegionGraph, IsGraph, IsWithinEdges}
 use Rattle.agglo_model.specs.Settling.{IsLeftOf}
-use Rattle.agglo_model.proofs.Members.{contains_head, contains_tail, Contains-unmap, All-from_contains}
+use Rattle.agglo_model.proofs.Members.{contains_head, contains_tail, Contains-unmap, All-from_contains, Contains-unfilter}
+use Rattle.agglo_model.proofs.Cases.{below_next}
 use Rattle.mutual_merge.specs.declared.links.Link.{Link}
 use Rattle.mutual_merge.specs.Linked.{AreLinked, IsLink, region_at, name_at, edge_by, edges_by, graph_of}
 use Rattle.mutual_merge.specs.Left.{AreLeft, is_kept, edges_left, regions_left}
 use Rattle.mutual_merge.specs.Trimmed.{AreKept, AreTrimmed, kept_links, link_at}
 use Rattle.mutual_merge.proofs.KeptRegions.{kept_upto-take, kept_upto-skip}
-use Rattle.mutual_merge.proofs.LeftGraphs.{Contains-unfilter, edges_left-fewer, IsGraph-left, IsWithinEdges-left, IsLeftOf-left}
+use Rattle.mutual_merge.proofs.LeftGraphs.{edges_left-fewer, IsGraph-left, IsWithinEdges-left, IsLeftOf-left}
 use Rattle.mutual_merge.proofs.LinkedEdges.{AreLinked-from_edges, IsInside, same_sums}
 
 -- what is kept of the first i regions
@@ -33,12 +35,6 @@ kept_none regions kept = record {
   same = λ k below. absurd (omega arith);
 }
 
-last_or_before : (k i : ℕ) → k < i + 1 → (k < i) ⊎ (k ≡ i)
-last_or_before k i below = grind arith
-
-no_both : (b : Bool) → b ≡ false → b ≡ true → ⊥
-no_both b fail pass = cc
-
 module _ (regions : List Region) (kept : List Bool) (i : ℕ) (left : List Region) (places : List ℕ) (so_far : AreKeptTo regions kept i left places) where
   abbrev more_places : List ℕ
   more_places = places ++ length left ∷ []
@@ -51,13 +47,13 @@ module _ (regions : List Region) (kept : List Bool) (i : ℕ) (left : List Regio
     regions_are = so_far.regions_are ∙ sym (kept_upto-skip regions kept i fail);
     few = let few = so_far.few in omega arith;
     one_each = length_push places (length left) ∙ ap (λ n. n + 1) so_far.one_each;
-    inside = λ k below pass. elim (last_or_before k i below) [
+    inside = λ k below pass. elim (below_next k i below) [
       | inl before ↦ subst (λ p. p < length left) (sym (place_before k before)) (so_far.inside k before pass)
-      | inr last ↦ absurd (no_both (is_kept kept i) fail (subst (λ n. is_kept kept n ≡ true) last pass))
+      | inr last ↦ absurd (both_ways (is_kept kept i) fail (subst (λ n. is_kept kept n ≡ true) last pass))
     ];
-    same = λ k below pass. elim (last_or_before k i below) [
+    same = λ k below pass. elim (below_next k i below) [
       | inl before ↦ ap (region_at left) (place_before k before) ∙ so_far.same k before pass
-      | inr last ↦ absurd (no_both (is_kept kept i) fail (subst (λ n. is_kept kept n ≡ true) last pass))
+      | inr last ↦ absurd (both_ways (is_kept kept i) fail (subst (λ n. is_kept kept n ≡ true) last pass))
     ];
   }
 
@@ -69,13 +65,13 @@ module _ (regions : List Region) (kept : List Bool) (i : ℕ) (left : List Regio
         regions_are = (λ j. so_far.regions_are j ++ sym here j ∷ []) ∙ sym (kept_upto-take regions kept i pass);
         few = let few = so_far.few in omega arith;
         one_each = length_push places (length left) ∙ ap (λ n. n + 1) so_far.one_each;
-        inside = λ k below passes. elim (last_or_before k i below) [
+        inside = λ k below passes. elim (below_next k i below) [
           | inl before ↦
               let low = so_far.inside k before passes in
               subst (λ p. p < length (left ++ r ∷ [])) (sym (place_before k before)) (omega arith)
           | inr last ↦ subst (λ p. p < length (left ++ r ∷ [])) (sym (place_last k last)) (omega arith)
         ];
-        same = λ k below passes. elim (last_or_before k i below) [
+        same = λ k below passes. elim (below_next k i below) [
           | inl before ↦
               ap (region_at (left ++ r ∷ [])) (place_before k before)
               ∙ get_or_append_left left (r ∷ []) (record { name = 0; faces = 0 }) (get_or places k 0) (so_far.inside k before passes)
@@ -96,11 +92,6 @@ kept_all regions kept i left places end all =
     let whole = subst (λ n. AreKeptTo regions kept n left places) end all in
     record { regions_are = whole.regions_are; few = whole.few; one_each = whole.one_each; inside = whole.inside; same = whole.same }
 
-both_of : (b c : Bool) → (b && c) ≡ true → (b ≡ true) × (c ≡ true)
-both_of true true pass = (refl, refl)
-both_of true false pass = absurd (no_both false refl pass)
-both_of false c pass = absurd (no_both false refl pass)
-
 module _ (t : Threshold) (faces : ℕ) (regions : List Region) (links : List Link) (kept : List Bool) (left : List Region) (places : List ℕ)
     (linked : AreLinked regions links) (are_left : AreLeft t faces regions links kept) (are_kept : AreKept regions kept left places) where
   abbrev chosen : List Link
@@ -116,7 +107,7 @@ module _ (t : Threshold) (faces : ℕ) (regions : List Region) (links : List Lin
   ends_of : (l : Link) → Contains chosen l → HasKeptEnds l
   ends_of l inside =
       let passed = Contains-unfilter (λ l. is_kept kept l.a && is_kept kept l.b) links l inside in
-      let both = both_of (is_kept kept l.a) (is_kept kept l.b) passed.1 in
+      let both = and_parts (is_kept kept l.a) (is_kept kept l.b) passed.1 in
       let is = All-contains (IsLink (length regions)) links l linked.links_are.each passed.0 in
       let up = is.ordered in
       let low = is.inside in

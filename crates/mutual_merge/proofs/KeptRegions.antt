@@ -2,14 +2,15 @@
 use Rattle.std.proofs.Common.{◌≡◌, ◌≢◌, ◌⊎◌, inl, inr, ℕ, ◌+◌, ◌<◌, Bool, true, false, cond, List, [], ◌∷◌, ◌++◌, length, set, refl, sym, ap, ◌∙◌, subst, arith}
 use Rattle.std.specs.Prelude.{◌↔◌, IsTrue, bit_and, map, filter}
 use Rattle.std.specs.List.{range_with_len}
-use Rattle.std.proofs.lemmas.List.FromFn.{map-range_with_len_more}
-use Rattle.std.proofs.lemmas.List.{append-nil, map-id, map-append, length-set, get_or-set_same, get_or-set_other}
+use Rattle.std.proofs.lemmas.List.{append-nil, map-append, length-set, get_or-set_same, get_or-set_other}
 use Rattle.std.proofs.lemmas.List.Elements.{filter-append, Contains-push, Contains-push_cases, Contains-append_left}
 use Rattle.agglo_model.specs.PairOrder.{Threshold, Reaches}
 use Rattle.agglo_model.specs.RegionGraph.{Region}
+use Rattle.agglo_model.proofs.Names.{range_more}
 use Rattle.mutual_merge.specs.declared.links.Link.{Link}
 use Rattle.mutual_merge.specs.Linked.{IsLink, IsAtPlace, region_at, faces_at}
 use Rattle.mutual_merge.specs.Left.{AreHeldBack, AreLeft, HasReaching, KeepsReaching, is_kept}
+use Rattle.mutual_merge.proofs.RegionPlaces.{place_cases}
 
 -- which of the first i regions are held back
 pub record HeldSoFar (faces : ℕ) (regions : List Region) (i : ℕ) (held : List Bool) : Type 0 where
@@ -39,9 +40,6 @@ KeepsReaching-skip t links old new l so_far low = record {
     ],
   );
 }
-
-place_cases : (k a b : ℕ) → (k ≡ a) ⊎ (k ≡ b) ⊎ ((a ≢ k) × (b ≢ k))
-place_cases k a b = grind arith
 
 pub KeepsReaching-take : (t : Threshold) (links : List Link) (old new : List Bool) (l : Link) → KeepsReaching t links old new
     → IsLink (length old) l → Reaches t l.contact → KeepsReaching t (links ++ l ∷ []) old (ends_kept new l)
@@ -95,12 +93,6 @@ AreLeft-from t faces regions links held kept are_held keeps = record {
         λ left. elim left [ inl here ↦ all.1 (inl (own.1 here)) | inr reaching ↦ all.1 (inr reaching) ],
       );
 }
-
--- the numbers up to i
-range_more : (i : ℕ) → range_with_len 0 (i + 1) ≡ range_with_len 0 i ++ i ∷ []
-range_more i =
-    sym (map-id (range_with_len 0 (i + 1))) ∙ map-range_with_len_more (λ x. x) 0 i i (omega arith)
-    ∙ ap (λ xs. xs ++ i ∷ []) (map-id (range_with_len 0 i))
 
 -- the regions that are kept of one more place
 kept_upto-more : (regions : List Region) (kept : List Bool) (i : ℕ)

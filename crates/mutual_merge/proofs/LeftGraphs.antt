@@ -1,42 +1,23 @@
 -- The graph of the regions that are kept is what is left.
-use Rattle.std.proofs.Common.{◌≡◌, ◌⊎◌, inl, inr, ℕ, ◌<◌, ◌≤◌, Bool, true, false, not, cond, ◌&&◌, List, [], ◌∷◌, length, get_or, refl, sym, ap, ◌∙◌, subst, zero-add, arith}
+use Rattle.std.proofs.Common.{◌≡◌, inl, inr, ℕ, ◌<◌, ◌≤◌, Bool, true, not, ◌&&◌, List, length, get_or, refl, sym, ap, ◌∙◌, subst, zero-add, arith}
 use Rattle.std.specs.Prelude.{◌↔◌, Contains, AllPairs, filter, sum_by}
 use Rattle.std.specs.List.{range_with_len}
-use Rattle.std.proofs.lemmas.Bool.{false≢true}
+use Rattle.std.proofs.lemmas.Bool.{and_parts, and_from}
 use Rattle.std.proofs.lemmas.List.{get_or-map, length-map}
 use Rattle.std.proofs.lemmas.List.FromFn.{length-range_with_len, get_or-range_with_len}
 use Rattle.std.proofs.lemmas.List.Filters.{sum_by-filter_both}
 use Rattle.std.proofs.lemmas.List.Kept.{AllPairs-filter}
-use Rattle.std.proofs.lemmas.List.Elements.{All-contains, All-filter, All-contains_itself, Contains-get_or, filter_passes}
+use Rattle.std.proofs.lemmas.List.Elements.{All-contains, All-filter, Contains-get_or}
 use Rattle.agglo_model.specs.PairOrder.{Threshold, Reaches}
 use Rattle.agglo_model.specs.RegionGraph.{Region, GraphEdge, IsGraph, IsWithinEdges, HasRegion}
 use Rattle.agglo_model.specs.Settling.{IsLeft, IsLeftOf}
-use Rattle.agglo_model.proofs.Members.{contains_cases, contains_head, contains_none, contains_tail, Contains-map, Contains-unmap}
+use Rattle.agglo_model.proofs.Members.{Contains-map, Contains-unmap, Contains-filter, Contains-unfilter}
 use Rattle.mutual_merge.specs.declared.links.Link.{Link}
 use Rattle.mutual_merge.specs.Linked.{Ascend, AreLinked, IsLink, LinkBefore, link_edges, region_at, name_at, faces_at, edge_by, edges_by, graph_of}
 use Rattle.mutual_merge.specs.Left.{AreLeft, IsLeftAt, is_kept, edges_left, regions_left}
 use Rattle.mutual_merge.proofs.RegionPlaces.{names_ascend, region_place, same_place}
 use Rattle.mutual_merge.proofs.LinkedEdges.{same_sums}
 use Rattle.mutual_merge.proofs.PairRounds.{linked_graph, link_of}
-
--- what passes a test stays in a list, and what is in it passes
-pub Contains-filter : {X : Type 0} (p : X → Bool) (xs : List X) (x : X) → Contains xs x → p x ≡ true → Contains (filter p xs) x
-Contains-filter p [] x inside pass = absurd (contains_none x inside)
-Contains-filter p (y ∷ xs) x inside pass =
-    step (p y) (contains_cases y x xs inside) (λ same. ap p same ∙ pass) (λ later. Contains-filter p xs x later pass)
-  where
-    step : (b : Bool) → (y ≡ x) ⊎ Contains xs x → (y ≡ x → b ≡ true) → (Contains xs x → Contains (filter p xs) x)
-        → Contains (cond b (y ∷ filter p xs) (filter p xs)) x
-    step true (inl same) passes rest = subst (Contains (y ∷ filter p xs)) same (contains_head y (filter p xs))
-    step true (inr later) passes rest = contains_tail y x (filter p xs) (rest later)
-    step false (inl same) passes rest = absurd (false≢true (passes same))
-    step false (inr later) passes rest = rest later
-
-pub Contains-unfilter : {X : Type 0} (p : X → Bool) (xs : List X) (x : X) → Contains (filter p xs) x → Contains xs x × (p x ≡ true)
-Contains-unfilter p xs x inside = (
-  All-contains (Contains xs) (filter p xs) x (All-filter p (Contains xs) xs (All-contains_itself xs)) inside,
-  All-contains (λ y. p y ≡ true) (filter p xs) x (filter_passes p xs) inside,
-)
 
 in_range : (n k : ℕ) → Contains (range_with_len 0 n) k → k < n
 in_range n k (i, below, same) =
@@ -47,14 +28,6 @@ in_range n k (i, below, same) =
 range_has : (n k : ℕ) → k < n → Contains (range_with_len 0 n) k
 range_has n k below =
     let len = length-range_with_len 0 n in (k, omega arith, get_or-range_with_len 0 n k k below ∙ zero-add k)
-
-both_of : (a b : Bool) → (a && b) ≡ true → (a ≡ true) × (b ≡ true)
-both_of true true h = (refl, refl)
-both_of true false h = absurd (false≢true h)
-both_of false b h = absurd (false≢true h)
-
-and_of : (a b : Bool) → a ≡ true → b ≡ true → (a && b) ≡ true
-and_of a b one other = (λ i. one i && other i)
 
 -- the edges of a part of the links have no more edges of the grid than all links
 pub filtered-fewer : (regions : List Region) (links : List Link) (p : Link → Bool)
@@ -129,7 +102,7 @@ module _ (regions : List Region) (links : List Link) (kept : List Bool) (linked 
   edge_link e inside =
       let found = link_of regions (filter (λ l. is_kept kept l.a && is_kept kept l.b) links) still_linked e inside in
       let passed = Contains-unfilter (λ l. is_kept kept l.a && is_kept kept l.b) links found.0 found.1 in
-      let both = both_of (is_kept kept found.0.a) (is_kept kept found.0.b) passed.1 in
+      let both = and_parts (is_kept kept found.0.a) (is_kept kept found.0.b) passed.1 in
       (found.0, passed.0, both.0, both.1, found.2)
 
   pub has_kept : (k x : ℕ) → k < length regions → is_kept kept k ≡ true → name_at regions k ≡ x
@@ -187,7 +160,7 @@ module _ (regions : List Region) (links : List Link) (kept : List Bool) (linked 
         let b = kept_name l.b e.b (link_in l found.1).inside (ap (λ z. z.b) found.2) to in
         subst (Contains (edges_left regions links kept)) found.2
         (Contains-map (edge_by (name_at regions)) (filter (λ l. is_kept kept l.a && is_kept kept l.b) links) l
-        (Contains-filter (λ l. is_kept kept l.a && is_kept kept l.b) links l found.1 (and_of (is_kept kept l.a) (is_kept kept l.b) a b))),
+        (Contains-filter (λ l. is_kept kept l.a && is_kept kept l.b) links l found.1 (and_from (is_kept kept l.a) (is_kept kept l.b) a b))),
   )
 
   module _ (t : Threshold) (faces : ℕ) (are_left : AreLeft t faces regions links kept) where

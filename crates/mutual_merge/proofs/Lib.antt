@@ -21,7 +21,6 @@ pub mod PartedGraphs
 pub mod UnitedGraphs
 pub mod PartPlaces
 pub mod UnitePlaces
-pub mod SampleGraphs
 pub mod ClosedGraph
 pub mod LinkedStands
 mod SlotFirsts

@@ -10,6 +10,7 @@ use Rattle.agglo_model.specs.PairOrder.{Contact, Threshold, Before}
 use Rattle.agglo_model.specs.RegionGraph.{Region}
 use Rattle.agglo_model.proofs.Means.{before-between}
 use Rattle.agglo_model.proofs.Members.{contains_none, All-from_contains}
+use Rattle.agglo_model.proofs.Cases.{name_cases}
 use Rattle.mutual_merge.specs.declared.links.Link.{Link}
 use Rattle.mutual_merge.specs.Linked.{IsLink, IsAtPlace}
 use Rattle.mutual_merge.specs.Firsts.{NoneBefore, IsFirst, AreFirsts, IsNotEarlier}
@@ -159,9 +160,6 @@ module _ (mates : List ℕ) (l : Link) (a_in : l.a < length mates) (b_in : l.b <
   mate_of_other k ka kb =
       get_or-set_other (set mates l.a l.b) l.b k l.a 0 kb ∙ get_or-set_other mates l.a k l.b 0 ka
 
-place_cases : (k a b : ℕ) → (k ≡ a) ⊎ (k ≡ b) ⊎ ((k ≢ a) × (k ≢ b))
-place_cases k a b = grind arith
-
 -- a link that can be a pair is taken
 pub PairsSoFar-take : (t : Threshold) (faces : ℕ) (regions : List Region) (links : List Link) (i : ℕ) (mates : List ℕ)
     (pairs : List Link) (firsts : List (Option Contact)) (l : Link) → PairsSoFar t faces regions links i mates pairs
@@ -176,7 +174,7 @@ PairsSoFar-take t faces regions links i mates pairs firsts l so_far known alone 
   mated = All-push (AreMates (mated_by mates l)) pairs l
       (All-from_contains (AreMates (mated_by mates l)) pairs (λ p inside. still_mates p inside))
       (record { of_a = mate_of_a mates l a_in b_in ordered; of_b = mate_of_b mates l a_in b_in ordered });
-  single = λ k below. single_of k below (place_cases k l.a l.b);
+  single = λ k below. single_of k below (name_cases k l.a l.b);
   apart = all_pairs_push ShareNoPlace pairs l so_far.apart
       (λ k d below. apart_of (get_or pairs k d) (Contains-get_or pairs k d below));
   complete = λ none. absurd (not_none none);

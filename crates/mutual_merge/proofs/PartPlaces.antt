@@ -1,21 +1,21 @@
 -- The two parts of a graph by the places of its regions.
-use Rattle.std.proofs.Common.{◌≡◌, ◌≢◌, ◌⊎◌, inl, inr, ℕ, ◌+◌, ◌<◌, ◌≤◌, Bool, true, false, not, ◌&&◌, List, length, refl, sym, ap, ◌∙◌, subst, arith}
+use Rattle.std.proofs.Common.{◌≡◌, ◌≢◌, inl, inr, ℕ, ◌+◌, ◌<◌, ◌≤◌, Bool, true, false, not, ◌&&◌, List, length, refl, sym, ap, ◌∙◌, subst, arith}
 use Rattle.std.specs.Prelude.{Contains, filter, sum_by, bit_and}
-use Rattle.std.proofs.lemmas.Bool.{cases_Bool, false≢true}
-use Rattle.std.proofs.lemmas.Grind.{common_steps}
+use Rattle.std.proofs.lemmas.Bool.{cases_Bool, false≢true, cases_eq}
 use Rattle.std.proofs.lemmas.List.{get_or_default}
 use Rattle.std.proofs.lemmas.List.Elements.{All-contains, Contains-get_or}
 use Rattle.std.proofs.lemmas.List.Filters.{sum_by-filter_both}
+use Rattle.std.specs.Int.Bits.{and_self}
 use Rattle.agglo_model.specs.RegionGraph.{Region, GraphEdge, RegionGraph, IsGraph, IsWithinEdges, HasRegion}
 use Rattle.agglo_model.specs.Settling.{IsHeldBack}
-use Rattle.agglo_model.proofs.Members.{Contains-map}
+use Rattle.agglo_model.proofs.Members.{Contains-map, Contains-filter, Contains-unfilter}
 use Rattle.mutual_merge.specs.declared.links.Link.{Link}
 use Rattle.mutual_merge.specs.Linked.{AreLinked, Ascend, IsLink, link_edges, region_at, name_at, faces_at, edge_by, graph_of}
 use Rattle.mutual_merge.specs.Left.{is_kept, edges_left, regions_left}
 use Rattle.mutual_merge.specs.Parts.{AreAside, AreMarked, IsParted, MayRest, awake_edges, is_awake, marked}
 use Rattle.mutual_merge.proofs.RegionPlaces.{names_ascend, region_place}
 use Rattle.mutual_merge.proofs.LinkedEdges.{same_sums}
-use Rattle.mutual_merge.proofs.LeftGraphs.{Contains-filter, Contains-unfilter, filtered_linked, filtered-fewer, kept_place, kept_name, has_kept, a_in, IsGraph-left, kept_edges_are}
+use Rattle.mutual_merge.proofs.LeftGraphs.{filtered_linked, filtered-fewer, kept_place, kept_name, has_kept, a_in, IsGraph-left, kept_edges_are}
 use Rattle.mutual_merge.proofs.PairRounds.{linked_graph, link_of}
 
 -- regions of the same names stand in the same order
@@ -37,12 +37,6 @@ both_of : (a b : Bool) → not (a && b) ≡ false → (a ≡ true) × (b ≡ tru
 both_of true true none = (refl, refl)
 both_of true false none = absurd (false≢true (sym none))
 both_of false b none = absurd (false≢true (sym none))
-
-and_self : (n : ℕ) → bit_and n n ≡ n
-and_self n = grind (arith, common_steps)
-
-some_face : (n : ℕ) → (n ≡ 0) ⊎ (n ≢ 0)
-some_face n = grind arith
 
 module _ (faces : ℕ) (regions : List Region) (links : List Link) (rest : List Bool) (marked_are : List Region)
     (linked : AreLinked regions links) (may : MayRest faces regions rest) (are_marked : AreMarked faces regions rest marked_are) where
@@ -176,7 +170,7 @@ module _ (faces : ℕ) (regions : List Region) (links : List Link) (rest : List 
   free : (r : Region) → Contains marked_are r → ¬ (HasRegion aside r.name) → bit_and r.faces faces ≡ 0
   free r inside none =
       let place = awake_region r inside none in
-      elim (some_face (bit_and r.faces faces)) [
+      elim (cases_eq (bit_and r.faces faces) 0) [
         | inl is ↦ is
         | inr some ↦
             let pass = may.held place.0 place.1 (λ e. some (ap (λ z. bit_and z.faces faces) (sym place.2) ∙ e)) in

@@ -2,23 +2,25 @@
 use Rattle.std.proofs.Common.{◌≡◌, ◌≢◌, ◌⊎◌, inl, inr, ℕ, ◌<◌, List, [], ◌∷◌, refl, sym, ap, ◌∙◌, subst, arith}
 use Rattle.std.specs.Prelude.{map, Contains, bit_and, bit_or}
 use Rattle.std.proofs.lemmas.Nat.{and_or_apart}
+use Rattle.std.proofs.lemmas.Bool.{cases_eq}
 use Rattle.agglo_model.specs.PairOrder.{Threshold, added}
 use Rattle.agglo_model.specs.Greedy.{Merge}
 use Rattle.agglo_model.specs.RegionGraph.{Region, GraphEdge, RegionGraph, IsGraph, HasRegion, no_contact, contact_in}
 use Rattle.agglo_model.specs.Settling.{IsAt, IsFreeIn, IsReciprocalEdge, IsGraphAfter, HasBothFaces, SettlesInto, edge_after, edge_of}
 use Rattle.agglo_model.proofs.Members.{contains_head, contains_tail, contains_cases, contains_none}
-use Rattle.agglo_model.proofs.GraphAfter.{after_exists}
+use Rattle.agglo_model.proofs.GraphAfter.{after_exists, region_over}
 use Rattle.agglo_model.proofs.GraphEdges.{edge_contact, edge_counts, edge_there}
-use Rattle.agglo_model.proofs.GraphMerges.{contact_in-swap, merged-third, merged-gone, merged-others, name_cases}
+use Rattle.agglo_model.proofs.GraphMerges.{contact_in-swap, merged-third, merged-gone, merged-others}
 use Rattle.agglo_model.proofs.GraphRounds.{Leads}
+use Rattle.agglo_model.proofs.Cases.{name_cases, apart_cases}
 use Rattle.mutual_merge.specs.Parts.{AreAside, IsParted}
-use Rattle.mutual_merge.proofs.SameContacts.{is_name, name_order, same_contact, none_there}
+use Rattle.mutual_merge.proofs.SameContacts.{same_contact, none_there}
 
 -- a list has a region of a name, or has none
 named_cases : (rs : List Region) (x : ℕ)
     → ((f : ℕ) × Contains rs (record { name = x; faces = f })) ⊎ ¬ ((f : ℕ) × Contains rs (record { name = x; faces = f }))
 named_cases [] x = inr (λ (f, inside). contains_none (record { name = x; faces = f }) inside)
-named_cases (r ∷ rs) x = by_name (is_name r.name x) (named_cases rs x)
+named_cases (r ∷ rs) x = by_name (cases_eq r.name x) (named_cases rs x)
   where
     by_name : (r.name ≡ x) ⊎ (r.name ≢ x)
         → ((f : ℕ) × Contains rs (record { name = x; faces = f })) ⊎ ¬ ((f : ℕ) × Contains rs (record { name = x; faces = f }))
@@ -52,7 +54,7 @@ module _ (faces : ℕ) (graph aside awake : RegionGraph) (is : IsGraph graph) (p
 
   pub awake_between : (past x y : ℕ) → x ≢ y → ¬ (HasRegion aside x × HasRegion aside y)
       → contact_in past awake.edges x y ≡ contact_in past graph.edges x y
-  awake_between past x y xy not_both = elim (name_order x y xy) [
+  awake_between past x y xy not_both = elim (apart_cases x y xy) [
     | inl less ↦ awake_there past x y less not_both
     | inr less ↦
         contact_in-swap past x y awake.edges ∙ awake_there past y x less (λ (b, a). not_both (a, b))
@@ -69,7 +71,7 @@ module _ (faces : ℕ) (graph aside awake : RegionGraph) (is : IsGraph graph) (p
 
   pub awake_none : (past x y : ℕ) → x ≢ y → HasRegion aside x → HasRegion aside y
       → contact_in past awake.edges x y ≡ no_contact past
-  awake_none past x y xy a b = elim (name_order x y xy) [
+  awake_none past x y xy a b = elim (apart_cases x y xy) [
     | inl less ↦ awake_none-less past x y less a b
     | inr less ↦ contact_in-swap past x y awake.edges ∙ awake_none-less past y x less b a
   ]
@@ -240,26 +242,12 @@ module _ (faces : ℕ) (graph aside awake : RegionGraph) (is : IsGraph graph) (p
     }
 
     region_forth : (r : Region) → ¬ (HasRegion aside r.name) → Contains next.regions r → Contains after.regions r
-    region_forth r awake_r inside = elim (is_name r.name m.survivor) [
-      | inl at_s ↦
-          subst (λ x. Contains after.regions (record { name = x; faces = r.faces })) (sym at_s)
-          ((after_graph.survivor r.faces).1 (both_forth r.faces ((after_awake.survivor r.faces).0
-          (subst (λ x. Contains next.regions (record { name = x; faces = r.faces })) at_s inside))))
-      | inr rs ↦
-          let was = (after_awake.others r rs).0 inside in
-          (after_graph.others r rs).1 ((parted.awake_regions r awake_r).0 was.0, was.1)
-    ]
+    region_forth r awake_r =
+        region_over m awake graph next after after_awake after_graph both_forth r (λ _ _. (parted.awake_regions r awake_r).0)
 
     region_back : (r : Region) → ¬ (HasRegion aside r.name) → Contains after.regions r → Contains next.regions r
-    region_back r awake_r inside = elim (is_name r.name m.survivor) [
-      | inl at_s ↦
-          subst (λ x. Contains next.regions (record { name = x; faces = r.faces })) (sym at_s)
-          ((after_awake.survivor r.faces).1 (both_back r.faces ((after_graph.survivor r.faces).0
-          (subst (λ x. Contains after.regions (record { name = x; faces = r.faces })) at_s inside))))
-      | inr rs ↦
-          let was = (after_graph.others r rs).0 inside in
-          (after_awake.others r rs).1 ((parted.awake_regions r awake_r).1 was.0, was.1)
-    ]
+    region_back r awake_r =
+        region_over m graph awake after next after_graph after_awake both_back r (λ _ _. (parted.awake_regions r awake_r).1)
 
     rest_after : (x : ℕ) → HasRegion aside x → HasRegion next x
     rest_after x at_x =
@@ -267,7 +255,7 @@ module _ (faces : ℕ) (graph aside awake : RegionGraph) (is : IsGraph graph) (p
         (here.0, (after_awake.others (record { name = x; faces = here.0 }) (other_s x at_x)).1 (here.1, other_b x at_x))
 
     free_region : (r : Region) → Contains next.regions r → ¬ (HasRegion aside r.name) → bit_and r.faces faces ≡ 0
-    free_region r inside awake_r = elim (is_name r.name m.survivor) [
+    free_region r inside awake_r = elim (cases_eq r.name m.survivor) [
       | inl at_s ↦
           let both = (after_awake.survivor r.faces).0 (subst (λ x. Contains next.regions (record { name = x; faces = r.faces })) at_s inside) in
           ap (λ f. bit_and f faces) both.both

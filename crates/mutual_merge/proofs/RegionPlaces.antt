@@ -1,18 +1,16 @@
 -- Places in a list of regions by ascending name.
-use Rattle.std.proofs.Common.{◌≡◌, ◌⊎◌, inl, inr, ℕ, zero, suc, ◌<◌, ◌≤◌, true, false, ltb, List, length, get_or, ap, ◌∙◌, arith}
+use Rattle.std.proofs.Common.{◌≡◌, ◌≢◌, ◌⊎◌, inl, inr, ℕ, zero, suc, ◌<◌, ◌≤◌, true, false, ltb, List, length, get_or, ap, ◌∙◌, arith}
 use Rattle.std.specs.Prelude.{Contains}
 use Rattle.std.specs.List.Sorted.{IsNonDecreasingBy, IsPartitionPoint}
 use Rattle.std.proofs.lemmas.Bool.{ltb-true, ltb-false}
 use Rattle.std.proofs.lemmas.List.{get_or_default}
 use Rattle.agglo_model.specs.RegionGraph.{Region}
+use Rattle.agglo_model.proofs.Cases.{order_cases}
 use Rattle.mutual_merge.specs.Linked.{Ascend, region_at, name_at}
 
 -- names ascend with places
 pub names_ascend : (rs : List Region) (i j : ℕ) → Ascend rs → i < j → j < length rs → name_at rs i < name_at rs j
 names_ascend rs i j ascend before below = ascend i j (record { name = 0; faces = 0 }) before below
-
-order_cases : (i j : ℕ) → (i < j) ⊎ (i ≡ j) ⊎ (j < i)
-order_cases i j = grind arith
 
 pub place_less : (rs : List Region) (i j : ℕ) → Ascend rs → i < length rs → j < length rs → name_at rs i < name_at rs j → i < j
 place_less rs i j ascend in_i in_j less = elim (order_cases i j) [
@@ -72,3 +70,6 @@ IsNonDecreasingBy-names rs ascend i j d upto below = step (order_cases i j)
     step (inl less) = let up = ascend i j d less below in omega arith
     step (inr (inl same)) = let e = ap (λ k. (get_or rs k d).name) same in omega arith
     step (inr (inr more)) = absurd (omega arith)
+
+pub place_cases : (k a b : ℕ) → (k ≡ a) ⊎ (k ≡ b) ⊎ ((a ≢ k) × (b ≢ k))
+place_cases k a b = grind arith

@@ -1,24 +1,15 @@
 -- Two graphs with the same edges between two names have the same contact there.
-use Rattle.std.proofs.Common.{◌≡◌, ◌≢◌, ◌⊎◌, inl, inr, ℕ, ◌<◌, sym, ◌∙◌, arith}
+use Rattle.std.proofs.Common.{◌≡◌, ◌⊎◌, inl, inr, ℕ, ◌<◌, sym, ◌∙◌, eq-zero-or-pos}
 use Rattle.std.specs.Prelude.{◌↔◌, Contains}
 use Rattle.agglo_model.specs.RegionGraph.{GraphEdge, RegionGraph, IsGraph, no_contact, contact_in}
 use Rattle.agglo_model.proofs.GraphEdges.{edge_contact, edge_of_contact}
 use Rattle.agglo_model.proofs.GraphFirsts.{contact_in-none}
 
-pub is_name : (x y : ℕ) → (x ≡ y) ⊎ (x ≢ y)
-is_name x y = grind arith
-
-pub name_order : (x y : ℕ) → x ≢ y → (x < y) ⊎ (y < x)
-name_order x y xy = grind arith
-
-pub some_cases : (n : ℕ) → (n ≡ 0) ⊎ (0 < n)
-some_cases n = grind arith
-
 module _ (past : ℕ) (part graph : RegionGraph) (part_is : IsGraph part) (is : IsGraph graph) (x y : ℕ) (xy : x < y) where
   pub same_contact : ((e : GraphEdge) → e.a ≡ x → e.b ≡ y → Contains part.edges e ↔ Contains graph.edges e)
       → contact_in past part.edges x y ≡ contact_in past graph.edges x y
   same_contact same =
-      by_cases (some_cases (contact_in past graph.edges x y).count) (some_cases (contact_in past part.edges x y).count)
+      by_cases (eq-zero-or-pos (contact_in past graph.edges x y).count) (eq-zero-or-pos (contact_in past part.edges x y).count)
     where
       by_edge : (e : GraphEdge) → Contains part.edges e → (e.a ≡ x) × (e.b ≡ y)
           → contact_in past part.edges x y ≡ contact_in past graph.edges x y
@@ -39,7 +30,7 @@ module _ (past : ℕ) (part graph : RegionGraph) (part_is : IsGraph part) (is : 
 
   -- without an edge there is no contact
   pub none_there : ((e : GraphEdge) → e.a ≡ x → e.b ≡ y → ¬ (Contains part.edges e)) → contact_in past part.edges x y ≡ no_contact past
-  none_there none = elim (some_cases (contact_in past part.edges x y).count) [
+  none_there none = elim (eq-zero-or-pos (contact_in past part.edges x y).count) [
     | inl gone ↦ contact_in-none part part_is past x y gone
     | inr some ↦ let found = edge_of_contact part part_is past x y xy some in absurd (none found.0 found.2 found.3 found.1)
   ]

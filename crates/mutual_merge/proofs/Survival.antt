@@ -1,9 +1,10 @@
 -- The regions that are kept when mates are merged, region by region.
-use Rattle.std.proofs.Common.{◌≡◌, ◌⊎◌, inl, inr, ℕ, ◌+◌, ◌<◌, ◌≤◌, min, List, [], ◌∷◌, ◌++◌, length, get_or, refl, sym, ap, ◌∙◌, subst, arith}
+use Rattle.std.proofs.Common.{◌≡◌, inl, inr, ℕ, ◌+◌, ◌<◌, ◌≤◌, min, List, [], ◌∷◌, ◌++◌, length, get_or, refl, sym, ap, ◌∙◌, subst, below_more, arith}
 use Rattle.std.specs.Prelude.{bit_or}
 use Rattle.std.proofs.lemmas.List.{length_push, get_or_append_left, get_or_default, get_or_push, get_or_read}
 use Rattle.std.proofs.lemmas.List.Quantifiers.{all_pairs_push}
 use Rattle.agglo_model.specs.RegionGraph.{Region}
+use Rattle.agglo_model.proofs.Cases.{below_next}
 use Rattle.mutual_merge.specs.Linked.{Ascend, region_at, name_at, faces_at}
 use Rattle.mutual_merge.specs.Merged.{AreMutual, AreSurvivors, survivor_of}
 use Rattle.mutual_merge.proofs.RegionPlaces.{names_ascend}
@@ -39,16 +40,6 @@ pub record AtRegion (regions : List Region) (mates : List ℕ) (i : ℕ) : Type 
   pub mutual_are : AreMutual mates (length regions)
   pub below : i < length regions
 
-last_case : (k i : ℕ) → k < i + 1 → (k < i) ⊎ (k ≡ i)
-last_case k i below = grind arith
-
--- a fact of each place so far, and of the next one
-upto : (P : ℕ → Type 0) (i : ℕ) → ((k : ℕ) → k < i → P k) → P i → (k : ℕ) → k < i + 1 → P k
-upto P i before here k below = elim (last_case k i below) [
-  | inl less ↦ before k less
-  | inr same ↦ subst P (sym same) here
-]
-
 module _ (regions : List Region) (mates : List ℕ) (i : ℕ) (kept : List Region) (places : List ℕ)
     (so_far : SurvivorsSoFar regions mates i kept places) (known : AtRegion regions mates i) where
   -- a place of before is still there
@@ -71,13 +62,13 @@ module _ (regions : List Region) (mates : List ℕ) (i : ℕ) (kept : List Regio
         ascend = so_far.ascend;
         few = let f = so_far.few in omega arith;
         fewer = λ k below less. let f = so_far.few in omega arith;
-        inside = upto (λ k. get_or (places ++ p ∷ []) k 0 < length kept) i
+        inside = below_more (λ k. get_or (places ++ p ∷ []) k 0 < length kept) i
             (λ k below. subst (λ q. q < length kept) (sym (place_before p k below)) (so_far.inside k below))
             (subst (λ q. q < length kept) (sym (place_here p)) (so_far.inside m before));
-        named = upto (λ k. name_at kept (get_or (places ++ p ∷ []) k 0) ≡ name_at regions (survivor_of mates k)) i
+        named = below_more (λ k. name_at kept (get_or (places ++ p ∷ []) k 0) ≡ name_at regions (survivor_of mates k)) i
             (λ k below. ap (name_at kept) (place_before p k below) ∙ so_far.named k below)
             (ap (name_at kept) (place_here p) ∙ so_far.named m before ∙ ap (name_at regions) (own ∙ sym here));
-        faced = λ k below least. elim (last_case k i below) [
+        faced = λ k below least. elim (below_next k i below) [
           | inl less ↦ ap (faces_at kept) (place_before p k less) ∙ so_far.faced k less least
           | inr same ↦ let e = ap (λ z. get_or mates z 0) same in absurd (omega arith)
         ];
@@ -101,25 +92,25 @@ module _ (regions : List Region) (mates : List ℕ) (i : ℕ) (kept : List Regio
         one_each = length_push places p ∙ ap (λ n. n + 1) so_far.one_each;
         ascend = all_pairs_push (λ q s. q.name < s.name) kept r so_far.ascend (λ j d below. lower j d below);
         few = let f = so_far.few in omega arith;
-        fewer = λ k below less. elim (last_case k i below) [
+        fewer = λ k below less. elim (below_next k i below) [
           | inl before ↦ let f = so_far.fewer k before less in omega arith
           | inr same ↦ let e = ap (λ z. get_or mates z 0) same in absurd (omega arith)
         ];
-        inside = upto (λ k. get_or (places ++ p ∷ []) k 0 < length (kept ++ r ∷ [])) i
+        inside = below_more (λ k. get_or (places ++ p ∷ []) k 0 < length (kept ++ r ∷ [])) i
             (λ k below. let old = so_far.inside k below in let same = place_before p k below in omega arith)
             (let same = place_here p in omega arith);
-        named = upto (λ k. name_at (kept ++ r ∷ []) (get_or (places ++ p ∷ []) k 0) ≡ name_at regions (survivor_of mates k)) i
+        named = below_more (λ k. name_at (kept ++ r ∷ []) (get_or (places ++ p ∷ []) k 0) ≡ name_at regions (survivor_of mates k)) i
             (λ k below. ap (name_at (kept ++ r ∷ [])) (place_before p k below)
             ∙ ap (λ q. q.name) (region_before (get_or places k 0) (so_far.inside k below)) ∙ so_far.named k below)
             (ap (name_at (kept ++ r ∷ [])) (place_here p) ∙ ap (λ q. q.name) region_here ∙ name ∙ ap (name_at regions) (sym here));
-        faced = λ k below least. elim (last_case k i below) [
+        faced = λ k below least. elim (below_next k i below) [
           | inl less ↦ ap (faces_at (kept ++ r ∷ [])) (place_before p k less)
               ∙ ap (λ q. q.faces) (region_before (get_or places k 0) (so_far.inside k less)) ∙ so_far.faced k less least
           | inr same ↦ subst (λ z. faces_at (kept ++ r ∷ []) (get_or (places ++ p ∷ []) z 0)
               ≡ bit_or (faces_at regions z) (faces_at regions (get_or mates z 0))) (sym same)
               (ap (faces_at (kept ++ r ∷ [])) (place_here p) ∙ ap (λ q. q.faces) region_here ∙ faces)
         ];
-        each = λ j below. elim (last_case j p (subst (λ n. j < n) len below)) [
+        each = λ j below. elim (below_next j p (subst (λ n. j < n) len below)) [
           | inl less ↦
               let found = so_far.each j less in
               let low = found.1 in

@@ -1,19 +1,21 @@
 -- A graph without regions that no merge can take: the merges that settle it settle the whole graph.
-use Rattle.std.proofs.Common.{◌≡◌, ◌≢◌, ◌⊎◌, inl, inr, ℕ, ◌+◌, ◌*◌, ◌<◌, ◌≤◌, List, [], ◌∷◌, ◌++◌, append_assoc, refl, sym, ap, ◌∙◌, subst, arith}
+use Rattle.std.proofs.Common.{◌≡◌, ◌≢◌, ◌⊎◌, inl, inr, ℕ, ◌+◌, ◌*◌, ◌<◌, ◌≤◌, List, [], ◌∷◌, ◌++◌, append_assoc, refl, sym, ap, ◌∙◌, subst, eq-zero-or-pos, arith}
 use Rattle.std.specs.Prelude.{◌↔◌, map, Contains}
 use Rattle.std.proofs.lemmas.List.{append-nil}
+use Rattle.std.proofs.lemmas.Bool.{cases_eq}
 use Rattle.agglo_model.specs.PairOrder.{Threshold, Contact, Before, Reaches, added}
 use Rattle.agglo_model.specs.Greedy.{Merge}
 use Rattle.agglo_model.specs.RegionGraph.{Region, GraphEdge, RegionGraph, IsGraph, HasRegion, no_contact, contact_in}
 use Rattle.agglo_model.specs.Settling.{IsAt, IsFreeIn, IsReciprocalEdge, IsGraphAfter, HasBothFaces, IsLeft, IsLeftOf, Settles, SettlesInto, edge_after, edge_of}
 use Rattle.agglo_model.proofs.Means.{before-reaches}
-use Rattle.agglo_model.proofs.GraphAfter.{after_exists}
+use Rattle.agglo_model.proofs.GraphAfter.{after_exists, region_over}
 use Rattle.agglo_model.proofs.GraphEdges.{edge_contact, edge_of_contact, edge_there}
 use Rattle.agglo_model.proofs.GraphFirsts.{contact_in-none}
-use Rattle.agglo_model.proofs.GraphMerges.{contact_in-swap, merged-third, merged-gone, merged-others, name_cases}
+use Rattle.agglo_model.proofs.GraphMerges.{contact_in-swap, merged-third, merged-gone, merged-others}
 use Rattle.agglo_model.proofs.GraphRounds.{Leads}
+use Rattle.agglo_model.proofs.Cases.{name_cases, apart_cases}
 use Rattle.mutual_merge.specs.Rounds.{Carries}
-use Rattle.mutual_merge.proofs.SameContacts.{is_name, name_order, some_cases, same_contact}
+use Rattle.mutual_merge.proofs.SameContacts.{same_contact}
 
 -- The part of a graph that has all regions which a merge may still take, and the edges among its regions.
 pub record IsTrimmed (t : Threshold) (faces : ℕ) (graph part : RegionGraph) : Type 0 where
@@ -35,7 +37,7 @@ IsTrimmed-left t faces graph part left = record {
 -- of two contacts that together reach the threshold, one does
 one_reaches : (p q a b c d : ℕ) → (p ≡ 0 → a ≡ 0) → (p ≡ 0 → c ≡ 0) → (q ≡ 0 → b ≡ 0) → (q ≡ 0 → d ≡ 0) → 0 < p + q → a + b ≤ c + d
     → ((0 < p) × (a ≤ c)) ⊎ ((0 < q) × (b ≤ d))
-one_reaches p q a b c d pa pc qb qd some reaches = by_cases (some_cases p) (some_cases q) (le_cases a c)
+one_reaches p q a b c d pa pc qb qd some reaches = by_cases (eq-zero-or-pos p) (eq-zero-or-pos q) (le_cases a c)
   where
     le_cases : (m n : ℕ) → (m ≤ n) ⊎ (n < m)
     le_cases m n = grind arith
@@ -69,7 +71,7 @@ ReachesAt t graph x = (e : GraphEdge) × Contains graph.edges e × IsAt x e × R
 -- where the contact of two names reaches the threshold, so does the edge between them
 reaching_edge : (t : Threshold) (graph : RegionGraph) → IsGraph graph → (past x y : ℕ) → x ≢ y
     → 0 < (contact_in past graph.edges x y).count → Reaches t (contact_in past graph.edges x y) → ReachesAt t graph x
-reaching_edge t graph is past x y xy some reaches = elim (name_order x y xy) [
+reaching_edge t graph is past x y xy some reaches = elim (apart_cases x y xy) [
   | inl less ↦
       let found = edge_of_contact graph is past x y less some in
       let same : contact_in past graph.edges x y ≡ added found.0.contact (no_contact past) =
@@ -180,7 +182,7 @@ module _ (t : Threshold) (faces : ℕ) (graph part : RegionGraph) (is : IsGraph 
 
   pub same_between : (past x y : ℕ) → x ≢ y → HasRegion part x → HasRegion part y
       → contact_in past part.edges x y ≡ contact_in past graph.edges x y
-  same_between past x y xy has_x has_y = elim (name_order x y xy) [
+  same_between past x y xy has_x has_y = elim (apart_cases x y xy) [
     | inl less ↦ same_there past x y less has_x has_y
     | inr less ↦
         contact_in-swap past x y part.edges ∙ same_there past y x less has_y has_x ∙ contact_in-swap past y x graph.edges
@@ -222,15 +224,8 @@ module _ (t : Threshold) (faces : ℕ) (graph part : RegionGraph) (is : IsGraph 
     }
 
     regions_after : (r : Region) → Contains next.regions r → Contains after.regions r
-    regions_after r inside = elim (is_name r.name m.survivor) [
-      | inl at_s ↦
-          subst (λ x. Contains after.regions (record { name = x; faces = r.faces })) (sym at_s)
-          ((after_graph.survivor r.faces).1 (both_forth r.faces ((after_part.survivor r.faces).0
-          (subst (λ x. Contains next.regions (record { name = x; faces = r.faces })) at_s inside))))
-      | inr rs ↦
-          let was = (after_part.others r rs).0 inside in
-          (after_graph.others r rs).1 (trim.regions r was.0, was.1)
-    ]
+    regions_after r =
+        region_over m part graph next after after_part after_graph both_forth r (λ _ _. trim.regions r)
 
     -- an edge at a third region that reaches the threshold after the merge did so before
     reached : (past x y : ℕ) → x ≢ m.survivor → x ≢ m.absorbed → x ≢ y
@@ -288,15 +283,9 @@ module _ (t : Threshold) (faces : ℕ) (graph part : RegionGraph) (is : IsGraph 
             (subst (λ z. Reaches t (contact_in 0 after.edges z e.a)) at_b (subst (Reaches t) turned here))
 
     stay_after : (r : Region) → Contains after.regions r → IsLeft t faces after r → Contains next.regions r
-    stay_after r inside left = elim (is_name r.name m.survivor) [
-      | inl at_s ↦
-          subst (λ x. Contains next.regions (record { name = x; faces = r.faces })) (sym at_s)
-          ((after_part.survivor r.faces).1 (both_back r.faces ((after_graph.survivor r.faces).0
-          (subst (λ x. Contains after.regions (record { name = x; faces = r.faces })) at_s inside))))
-      | inr rs ↦
-          let was = (after_graph.others r rs).0 inside in
-          (after_part.others r rs).1 (trim.stay r was.0 (left_before rs was.1 left), was.1)
-    ]
+    stay_after r inside left =
+        region_over m graph part after next after_graph after_part both_back r
+        (λ rs rb was. trim.stay r was (left_before rs rb left)) inside
       where
         left_before : r.name ≢ m.survivor → r.name ≢ m.absorbed → IsLeft t faces after r → IsLeft t faces graph r
         left_before rs rb (inl held) = inl held
@@ -304,7 +293,7 @@ module _ (t : Threshold) (faces : ℕ) (graph part : RegionGraph) (is : IsGraph 
 
     -- a region after the merge is the survivor, or was in the part
     kind : (x : ℕ) → HasRegion next x → (x ≡ m.survivor) ⊎ ((x ≢ m.survivor) × (x ≢ m.absorbed) × HasRegion part x)
-    kind x (f, inside) = elim (is_name x m.survivor) [
+    kind x (f, inside) = elim (cases_eq x m.survivor) [
       | inl at_s ↦ inl at_s
       | inr xs ↦
           let was = (after_part.others (record { name = x; faces = f }) xs).0 inside in

@@ -1,7 +1,8 @@
 -- What is left of the awake part, united with what was laid aside, by the lists that are made.
-use Rattle.std.proofs.Common.{◌≡◌, ◌≢◌, ◌⊎◌, inl, inr, ℕ, ◌<◌, List, ◌++◌, length, sym, ap, ◌∙◌, subst, arith}
+use Rattle.std.proofs.Common.{◌≡◌, ◌⊎◌, inl, inr, ℕ, ◌<◌, List, ◌++◌, length, sym, ap, ◌∙◌, subst, arith}
 use Rattle.std.specs.Prelude.{Contains, AllPairs, bit_and}
 use Rattle.std.proofs.lemmas.List.Elements.{All-append, All-contains, Contains-get_or, Contains-append_cases}
+use Rattle.std.proofs.lemmas.Bool.{cases_eq}
 use Rattle.agglo_model.specs.RegionGraph.{Region, GraphEdge, RegionGraph, IsGraph, HasRegion, StandsBefore, is_between, contact_in}
 use Rattle.agglo_model.specs.Settling.{IsHeldBack}
 use Rattle.agglo_model.proofs.GraphContacts.{contact_in-is, joint-count, joint-some}
@@ -76,9 +77,6 @@ module _ (faces : ℕ) (aside left : RegionGraph) (restored : List Region) (summ
     to_region = λ e inside. has_restored e.b (ends_of e inside).1;
   }
 
-  some_face : (n : ℕ) → (n ≡ 0) ⊎ (n ≢ 0)
-  some_face n = grind arith
-
   region_forth : (r : Region) → Contains restored r → Contains aside.regions r ⊎ (Contains left.regions r × (bit_and r.faces faces ≡ 0))
   region_forth r inside =
       let place = region_place restored r inside in
@@ -86,7 +84,7 @@ module _ (faces : ℕ) (aside left : RegionGraph) (restored : List Region) (summ
       let low = place.1 in
       let below : place.0 < length left.regions = omega (arith, len, low) in
       let known = restore.each place.0 below in
-      elim (some_face (bit_and (faces_at left.regions place.0) faces)) [
+      elim (cases_eq (bit_and (faces_at left.regions place.0) faces) 0) [
         | inl none ↦
             let same : region_at left.regions place.0 ≡ r = sym (known.free none) ∙ place.2 in
             inr (

@@ -17,8 +17,6 @@ mod resting;
 mod settling;
 mod slot_links;
 mod slots;
-#[cfg(test)]
-mod tests;
 mod trimming;
 
 pub use settling::{Settled, settle};

@@ -62,7 +62,8 @@ pub fn settle(
     threshold: &Threshold,
     frozen: u8,
 ) -> Result<Settled, Memory>
-    ensures { IfOk result (λ settled. Settles threshold.now frozen graph settled.merges.items settled.residue) }
+    ensures settles { IfOk result (λ settled. Settles threshold.now frozen graph settled.merges.items settled.residue) }
+    ensures fewer { IfOk result (λ settled. grid_edges settled.residue ≤ grid_edges graph) }
 {
     let start = linked(alloc, graph)?;
     let Progress {

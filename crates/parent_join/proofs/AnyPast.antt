@@ -1,11 +1,11 @@
 -- The contact of two names by a list of edges, whatever number past all edges is told.
-use Rattle.std.proofs.Common.{◌≡◌, ◌⊎◌, inl, inr, ℕ, ◌<◌, ◌≤◌, min, Bool, true, false, cond, List, [], ◌∷◌, refl, sym, ap, ◌∙◌, subst, arith}
+use Rattle.std.proofs.Common.{◌≡◌, ◌⊎◌, inl, inr, ℕ, ◌<◌, ◌≤◌, min, Bool, true, false, cond, List, [], ◌∷◌, refl, sym, ap, ◌∙◌, subst, eq-zero-or-pos, arith}
 use Rattle.std.proofs.lemmas.Bool.{cases_Bool}
 use Rattle.std.proofs.lemmas.List.Elements.{All-contains}
 use Rattle.agglo_model.specs.PairOrder.{Contact, added}
 use Rattle.agglo_model.specs.RegionGraph.{GraphEdge, is_between, no_contact, contact_in}
 use Rattle.agglo_model.proofs.GraphContacts.{same_contact, joint, joint-none, joint-count, joint-tie-le, contact_in-is}
-use Rattle.work_laws.proofs.AddedContacts.{listed, listed-none, listed-some, some_or_none}
+use Rattle.work_laws.proofs.AddedContacts.{listed, listed-none, listed-some}
 use Rattle.region_graph.specs.Lists.{AreTouching}
 
 -- the same sums and counts, and the same tie but for the numbers past all
@@ -40,7 +40,7 @@ pub contact_at : (past n x y : ℕ) (es : List GraphEdge) → AreTouching es
     → contact_in past es x y ≡ listed past (contact_in n es x y)
 contact_at past n x y es touching low =
     contact_in-is past x y es
-    ∙ by_cases (some_or_none (joint n (is_between x y) es).count)
+    ∙ by_cases (eq-zero-or-pos (joint n (is_between x y) es).count)
     ∙ ap (listed past) (sym (contact_in-is n x y es))
   where
     by_cases : ((joint n (is_between x y) es).count ≡ 0) ⊎ (0 < (joint n (is_between x y) es).count)

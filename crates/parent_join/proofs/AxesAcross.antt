@@ -1,7 +1,6 @@
 -- The contacts from child to child of a node, axis by axis.
-use Rattle.std.proofs.Common.{◌≡◌, ℕ, ◌+◌, ◌*◌, ◌/◌, ◌%◌, ◌<◌, ◌≤◌, Bool, true, false, ◌&&◌, ◌||◌, eqb, ltb, List, [], get_or, IsTrue, refl, sym, ap, ◌∙◌, subst, arith}
-use Rattle.std.proofs.lemmas.Bool.{eqb-true, lt-ltb}
-use Rattle.std.proofs.lemmas.Bool.Decides.{nat_tests}
+use Rattle.std.proofs.Common.{◌≡◌, ℕ, ◌+◌, ◌*◌, ◌/◌, ◌%◌, ◌<◌, ◌≤◌, Bool, ◌&&◌, ◌||◌, eqb, ltb, List, [], get_or, IsTrue, sym, ap, ◌∙◌, subst, arith}
+use Rattle.std.proofs.lemmas.Bool.{eqb-true}
 use mathlib.Core.Path.{fun_ext}
 use Rattle.agglo_model.specs.Axes.{Axes, voxel_count, edge_count, coordinate, is_edge}
 use Rattle.agglo_model.specs.Grid.{Grid}
@@ -11,9 +10,11 @@ use Rattle.agglo_model.specs.RegionGraph.{GraphEdge, contact_in}
 use Rattle.agglo_model.specs.Joining.{is_crossing}
 use Rattle.agglo_model.proofs.GraphContacts.{none-added}
 use Rattle.agglo_model.proofs.Totals.{total-tie-le}
+use Rattle.agglo_model.proofs.Tests.{alike}
 use Rattle.region_graph.specs.Lists.{AreOrdered, count_of}
 use Rattle.region_graph.specs.Boxes.{GainsContacts, ends_among, in_box}
 use Rattle.region_graph.proofs.ContactGains.{gains-nothing, gains-both, gains-same}
+use Rattle.region_graph.proofs.AxisContacts.{no_axis, axes_apart, axis_more, all_axes}
 use Rattle.parent_join.specs.Across.{across}
 use Rattle.parent_join.proofs.CrossingLayers.{crossing_is}
 
@@ -30,31 +31,12 @@ pub record AreAxesCrossed (g : Grid) (labels lo hi planes : List ℕ) (k : ℕ) 
   pub gains : GainsContacts g labels (crossing_to g.axes lo hi planes k) [] now
   pub count : count_of now ≤ k * voxel_count g.axes
 
-none_of : (j b : Bool) (r : ℕ) → (j && (ltb r 0 && b)) ≡ false
-none_of j b r = grind (arith, nat_tests)
-
 pub axes-none : (g : Grid) (labels lo hi planes : List ℕ) → AreAxesCrossed g labels lo hi planes 0 []
 axes-none g labels lo hi planes = record {
   gains = gains-nothing g labels (crossing_to g.axes lo hi planes 0) []
-      (λ x y e. none_of (joins g labels x y e) (at_plane g.axes lo hi planes (e % 3) (e / 3)) (e % 3));
+      (λ x y e. no_axis (joins g labels x y e) (at_plane g.axes lo hi planes (e % 3) (e / 3)) (e % 3));
   count = omega arith;
 }
-
-apart_of : (r k : ℕ) (b d : Bool) → ((ltb r k && b) && (eqb r k && d)) ≡ false
-apart_of r k b d = grind (arith, nat_tests)
-
-next_of : (r k : ℕ) (b d : Bool) → (eqb r k ≡ true → b ≡ d) → ((ltb r k && b) || (eqb r k && d)) ≡ (ltb r (k + 1) && b)
-next_of r k b d same = by_cases (eqb r k) refl
-  where
-    here_of : (r k : ℕ) (d : Bool) → eqb r k ≡ true → ((ltb r k && d) || (eqb r k && d)) ≡ (ltb r (k + 1) && d)
-    here_of r k d here = grind (arith, nat_tests)
-
-    other_of : (r k : ℕ) (b d : Bool) → eqb r k ≡ false → ((ltb r k && b) || (eqb r k && d)) ≡ (ltb r (k + 1) && b)
-    other_of r k b d other = grind (arith, nat_tests)
-
-    by_cases : (t : Bool) → eqb r k ≡ t → ((ltb r k && b) || (eqb r k && d)) ≡ (ltb r (k + 1) && b)
-    by_cases true here = subst (λ z. ((ltb r k && z) || (eqb r k && d)) ≡ (ltb r (k + 1) && z)) (sym (same here)) (here_of r k d here)
-    by_cases false other = other_of r k b d other
 
 -- one axis more, by a box whose voxels are those at the plane
 pub axes-more : (g : Grid) (labels lo hi planes from to : List ℕ) (k : ℕ) (now after : List GraphEdge)
@@ -67,19 +49,12 @@ axes-more g labels lo hi planes from to k now after so_far layer gained count =
     let B : ℕ → ℕ → Bool = λ r e. at_plane g.axes lo hi planes r (e / 3) in
     record {
       gains = gains-same g labels (λ e. p e || q e) (crossing_to g.axes lo hi planes (k + 1)) [] after
-          (λ e _. next_of (e % 3) k (B (e % 3) e) (in_box g.axes from to (e / 3))
+          (λ e _. axis_more (e % 3) k (B (e % 3) e) (in_box g.axes from to (e / 3))
           (λ here. ap (λ r. B r e) (eqb-true (e % 3) k here) ∙ sym (layer (e / 3))))
           (gains-both g labels p q [] now after
-          (λ e. apart_of (e % 3) k (B (e % 3) e) (in_box g.axes from to (e / 3))) so_far.gains gained);
+          (λ e. axes_apart (e % 3) k (B (e % 3) e) (in_box g.axes from to (e / 3))) so_far.gains gained);
       count = let so_many = so_far.count in omega (arith, so_many, count);
     }
-
-all_below : (e : ℕ) (b : Bool) → (ltb (e % 3) 3 && b) ≡ b
-all_below e b = let less : e % 3 < 3 = omega arith in ap (λ t. t && b) (lt-ltb (e % 3) 3 less)
-
-alike : (i d a p q : Bool) → (i ≡ true → p ≡ q) → (((i && d) && a) && p) ≡ (((i && d) && a) && q)
-alike true d a p q same = ap (λ t. (d && a) && t) (same refl)
-alike false d a p q same = refl
 
 -- all edges from child to child of a node
 pub axes-contacts : (g : Grid) (labels : List ℕ) (c : Chunking) (m : ℕ) (now : List GraphEdge) → IsChunking c → c.axes ≡ g.axes
@@ -93,7 +68,7 @@ axes-contacts g labels c m now h same node some all x y =
     all.gains.contacts x y
     ∙ none-added n (total g (λ e. joins g labels x y e && crosses e)) (total-tie-le g (λ e. joins g labels x y e && crosses e))
     ∙ ap (total g) (fun_ext (λ e. alike (is_edge g.axes e) _ _ (crosses e) (is_crossing c m e) (λ edge.
-    all_below e (at_plane g.axes (low_corner c m) (high_corner c m) planes (e % 3) (e / 3))
+    all_axes e (at_plane g.axes (low_corner c m) (high_corner c m) planes (e % 3) (e / 3))
     ∙ subst (λ a. IsTrue (is_edge a e) → at_plane a (low_corner c m) (high_corner c m) planes (e % 3) (e / 3) ≡ is_crossing c m e)
     same (λ t. crossing_is c h m node some e t) edge)))
 

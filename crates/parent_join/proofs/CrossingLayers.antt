@@ -4,6 +4,7 @@ use Rattle.std.proofs.Common.{◌≡◌, ◌≢◌, inl, inr, ℕ, ◌+◌, ◌*
 use Rattle.std.specs.Prelude.{IsTrue}
 use Rattle.std.proofs.Math.Nat.{div-div-eq-div-mul, mul-le-mul_right}
 use Rattle.std.proofs.lemmas.Bool.{cases_Bool, cases_lt, and_parts, and_from, eqb-true, eq-eqb, lt-ltb, not-true, not_from_false, false≢true}
+use Rattle.std.specs.Cmp.{both_ways}
 use Rattle.agglo_model.specs.Axes.{voxel_count, voxel_at, coordinate, is_edge, lower_end, higher_end}
 use Rattle.agglo_model.specs.Cutting.{Chunking, IsChunking, length_on, cell_length, level_grid, first_node, node_count, level_of, cell_place, cell_low, cell_high, low_corner, high_corner, node_at, child_count, child}
 use Rattle.agglo_model.specs.Freezing.{is_held, is_inside}
@@ -17,7 +18,6 @@ use Rattle.agglo_model.proofs.Places.{place-voxel, coordinate-voxel_at_x, coordi
 use Rattle.region_graph.specs.Boxes.{in_box}
 use Rattle.region_graph.proofs.InsideEdges.{IsBelowOn, lower_below, inside_is}
 use Rattle.region_graph.proofs.Layers.{above_in}
-use Rattle.region_graph.proofs.VoxelTests.{same_tests}
 use Rattle.parent_join.proofs.FirstChild.{longer, first_high, first_after}
 
 -- ---- two neighbours on an axis, and where they lie in cells of length l
@@ -210,7 +210,7 @@ module _ (c : Chunking) (h : IsChunking c) (m : ℕ) (node : m < node_count c) (
       let axis = e % 3 in
       let w = higher_end e in
       let high = high_at (child c m 0) axis (omega arith) in
-      same_tests _ (is_crossing c m e)
+      both_ways _ (is_crossing c m e)
       (λ pass.
       let parts = and_parts (in_box c.axes (low_corner c m) (high_corner c m) w) _ pass in
       layer_crosses e edge parts.0 (eqb-true (coordinate c.axes w axis) (get_or (high_corner c (child c m 0)) axis 0) parts.1 ∙ high))

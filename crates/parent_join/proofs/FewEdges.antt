@@ -6,6 +6,7 @@ use Rattle.std.proofs.lemmas.Bool.Decides.{nat_tests}
 use Rattle.std.proofs.lemmas.List.Elements.{Contains-get_or}
 use Rattle.std.proofs.lemmas.List.FromFn.{length-range_with_len}
 use Rattle.std.proofs.lemmas.List.Sums.{sum_by-append, count_by-le-length}
+use Rattle.std.proofs.Math.Bool.{and-or_distrib_left}
 use mathlib.Core.Path.{fun_ext}
 use Rattle.agglo_model.specs.Axes.{IsWithinLimits, edge_count, is_edge}
 use Rattle.agglo_model.specs.Grid.{Grid}
@@ -16,8 +17,8 @@ use Rattle.agglo_model.specs.Freezing.{is_inside}
 use Rattle.agglo_model.specs.Work.{IsPassed}
 use Rattle.agglo_model.specs.RegionGraph.{GraphEdge, RegionGraph, IsGraphOfNames, StandsBefore, grid_edges, residue_of}
 use Rattle.agglo_model.specs.Joining.{edges_inside, is_crossing, kept_edges}
+use Rattle.agglo_model.proofs.Tests.{both_apart}
 use Rattle.region_graph.specs.Lists.{count_of}
-use Rattle.work_laws.proofs.Tests.{both_apart}
 use Rattle.work_laws.proofs.ChildEdges.{inside_from, children_apart, crossing_apart}
 use Rattle.parent_join.specs.Kids.{FitsInto, ResiduesFit}
 use Rattle.parent_join.proofs.EdgeCounts.{count-both, apart_counts}
@@ -79,15 +80,11 @@ residues_fit g t c m labels graph is = names_fit (IsPassed g t c m labels) g c m
 
 -- ---- all children, and the edges between them
 
-or_apart : (j p q : Bool) → (j && (p || q)) ≡ ((j && p) || (j && q))
-or_apart true p q = refl
-or_apart false p q = refl
-
 split_count : (g : Grid) (p q : ℕ → Bool) → ((k : ℕ) → (p k && q k) ≡ false)
     → count_by (λ k. is_edge g.axes k && (p k || q k)) (edge_numbers g)
     ≡ count_by (λ k. is_edge g.axes k && p k) (edge_numbers g) + count_by (λ k. is_edge g.axes k && q k) (edge_numbers g)
 split_count g p q apart =
-    ap (λ t. count_by t (edge_numbers g)) (fun_ext (λ k. or_apart (is_edge g.axes k) (p k) (q k)))
+    ap (λ t. count_by t (edge_numbers g)) (fun_ext (λ k. and-or_distrib_left (is_edge g.axes k) (p k) (q k)))
     ∙ count-both (λ k. is_edge g.axes k && p k) (λ k. is_edge g.axes k && q k)
     (λ k. both_apart (is_edge g.axes k) (p k) (q k) (apart k)) (edge_numbers g)
 

@@ -8,10 +8,8 @@ use Rattle.agglo_model.proofs.Edges.{each_axis}
 use Rattle.agglo_model.proofs.Levels.{cells_on-suc, cell_length_pos}
 use Rattle.agglo_model.proofs.NodeCells.{node_place, cell_begins}
 use Rattle.agglo_model.proofs.Places.{coordinate-voxel_at_x, coordinate-voxel_at_y, coordinate-voxel_at_z}
+use Rattle.agglo_model.proofs.Cases.{twice_lt}
 use Rattle.work_laws.proofs.Children.{is_inner, child_level}
-
-double-lt : (q n : ℕ) → q < div_ceil n 2 → 2 * q < n
-double-lt q n below = omega arith
 
 -- the first place of a grid
 no_coordinate : (a : Axes) (axis : ℕ) → axis < 3 → coordinate a 0 axis ≡ 0
@@ -48,7 +46,7 @@ module _ (c : Chunking) (h : IsChunking c) (m : ℕ) (node : m < node_count c) (
   twice_place axis below =
       let cells : cells_on c (level_of c m) axis ≡ div_ceil (cells_on c (level_of c m - 1) axis) 2 =
       ap (λ k. cells_on c k axis) (sym up) ∙ cells_on-suc c h (level_of c m - 1) axis in
-      double-lt (cell_place c m axis) (cells_on c (level_of c m - 1) axis)
+      twice_lt (cell_place c m axis) (cells_on c (level_of c m - 1) axis)
       (subst (λ n. cell_place c m axis < n) cells below)
 
   -- the place of the first child, by its index in the level

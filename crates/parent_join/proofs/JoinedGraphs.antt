@@ -15,10 +15,11 @@ use Rattle.agglo_model.proofs.GraphContacts.{same_contact, joint-count, joint-no
 use Rattle.agglo_model.proofs.GraphEdges.{between_itself, between_names}
 use Rattle.agglo_model.proofs.Members.{contains_none, All-from_contains}
 use Rattle.agglo_model.proofs.Totals.{total-tie}
+use Rattle.agglo_model.proofs.RegionLists.{named_region, region_named}
 use Rattle.region_graph.specs.Lists.{AreOrdered, AreTouching, SameContacts, SameRegions, count_of}
 use Rattle.region_graph.proofs.CellGraphs.{faces_of}
 use Rattle.work_laws.proofs.AddedContacts.{listed}
-use Rattle.work_laws.proofs.KeptRegions.{from_kept, named_region, region_named}
+use Rattle.work_laws.proofs.KeptRegions.{from_kept}
 use Rattle.parent_join.specs.Across.{across, are_named}
 use Rattle.parent_join.specs.Kids.{KidsFit}
 use Rattle.parent_join.proofs.AnyPast.{contact_at}

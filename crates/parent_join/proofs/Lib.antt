@@ -10,4 +10,3 @@ pub mod ChildEnds
 pub mod KidLists
 pub mod NameSearch
 pub mod JoinedGraphs
-pub mod KidPushes

@@ -1,9 +1,9 @@
 -- What a binary search for a name finds in a list of regions by ascending name.
-use Rattle.std.proofs.Common.{◌≡◌, ◌≢◌, inl, inr, ℕ, ◌<◌, ◌≤◌, false, eqb, List, length, get_or, Result, Ok, Err, sym, subst, arith}
+use Rattle.std.proofs.Common.{◌≡◌, inl, inr, ℕ, ◌<◌, ◌≤◌, eqb, List, length, get_or, Result, Ok, Err, sym, subst, arith}
 use Rattle.std.specs.List.Sorted.{IsSearchInRange, IsBinarySearchResult, IsNonDecreasingBy}
 use Rattle.std.specs.Ordering.{nat_cmp, ordering_index}
 use Rattle.std.specs.Result.{is_ok}
-use Rattle.std.proofs.lemmas.Bool.{cases_lt, eq-eqb}
+use Rattle.std.proofs.lemmas.Bool.{cases_lt, eq-eqb, ne_eqb}
 use Rattle.std.proofs.lemmas.Bool.Decides.{nat_tests}
 use Rattle.std.proofs.lemmas.Cmp.{ranked}
 use Rattle.std.proofs.lemmas.List.Folds.{list_any_at, list_any_none}
@@ -13,9 +13,6 @@ use Rattle.agglo_model.proofs.RegionLists.{Ascend}
 
 rising : (m n x : ℕ) → m ≤ n → ordering_index (nat_cmp m x) ≤ ordering_index (nat_cmp n x)
 rising m n x up = grind (arith, nat_tests)
-
-other_name : (n x : ℕ) → n ≢ x → eqb n x ≡ false
-other_name n x differ = grind (arith, nat_tests)
 
 module _ (regions : List Region) (ascend : Ascend regions) (x : ℕ) where
   names_rise : IsNonDecreasingBy (λ (r : Region). ordering_index (nat_cmp r.name x)) regions
@@ -40,8 +37,8 @@ module _ (regions : List Region) (ascend : Ascend regions) (x : ℕ) where
       sym (list_any_none (λ (s : Region). eqb s.name x) regions (λ k d inside. elim (cases_lt k i) [
         | inl before ↦
             let less : (get_or regions k d).name < x = ranked (get_or regions k d).name x _ (sym ((parted names_rise).0 k d (omega arith) before)) in
-            other_name (get_or regions k d).name x (omega arith)
+            ne_eqb (get_or regions k d).name x (omega arith)
         | inr after ↦
             let more : x < (get_or regions k d).name = ranked (get_or regions k d).name x _ (sym ((parted names_rise).1 k d after inside)) in
-            other_name (get_or regions k d).name x (omega arith)
+            ne_eqb (get_or regions k d).name x (omega arith)
       ]))

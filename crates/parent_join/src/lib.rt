@@ -9,8 +9,6 @@ mod across;
 mod joining;
 mod kids;
 mod laws;
-#[cfg(test)]
-mod tests;
 
 pub use joining::join;
 pub use laws::residues_fit;

@@ -1,6 +1,8 @@
 -- A box gone over row by row: the contacts and the names of the rows so far.
-use Rattle.std.proofs.Common.{◌≡◌, ℕ, ◌+◌, ◌*◌, ◌-◌, ◌/◌, ◌%◌, ◌<◌, ◌≤◌, Bool, true, false, ◌&&◌, ◌||◌, eqb, List, get_or, refl, ap, ◌∙◌, arith}
+use Rattle.std.proofs.Common.{◌≡◌, ℕ, ◌+◌, ◌*◌, ◌-◌, ◌/◌, ◌%◌, ◌<◌, ◌≤◌, Bool, ◌&&◌, ◌||◌, eqb, List, get_or, sym, ap, ◌∙◌, arith}
 use Rattle.std.proofs.Math.Nat.{mul-le-mul_left}
+use Rattle.std.proofs.Math.Bool.{and-or_distrib_left}
+use Rattle.std.proofs.lemmas.Bool.{and_right}
 use Rattle.agglo_model.specs.Axes.{Axes, IsWithinLimits, IsPlace, voxel_count, voxel_at, coordinate}
 use Rattle.agglo_model.specs.Cell.{IsInBox}
 use Rattle.agglo_model.specs.Grid.{Grid}
@@ -8,6 +10,7 @@ use Rattle.agglo_model.specs.Contacts.{joins}
 use Rattle.agglo_model.specs.RegionGraph.{GraphEdge, Region}
 use Rattle.agglo_model.proofs.Edges.{each_axis}
 use Rattle.agglo_model.proofs.Places.{voxel_at-lt}
+use Rattle.agglo_model.proofs.Tests.{both_apart}
 use Rattle.region_graph.specs.Lists.{count_of}
 use Rattle.region_graph.specs.Boxes.{GainsContacts, GainsNames, IsBox, ends_among, in_box}
 use Rattle.region_graph.proofs.VoxelTests.{is_seen, in_row, in_box-is, row_inside, seen_none, seen_first, seen_layer, seen_all, seen_more, seen_apart}
@@ -56,15 +59,11 @@ pub record AreRowsSummed (g : Grid) (labels : List ℕ) (axis : ℕ) (lo hi : Li
 ends_of : (axis : ℕ) (p q : ℕ → Bool) (e : ℕ) → ((v : ℕ) → p v ≡ q v) → ends_among axis p e ≡ ends_among axis q e
 ends_of axis p q e same = ap (λ b. eqb (e % 3) axis && b) (same (e / 3))
 
-and_none : (b c : Bool) → c ≡ false → (b && c) ≡ false
-and_none true c none = none
-and_none false c none = refl
-
 pub rows-none : (g : Grid) (labels : List ℕ) (axis : ℕ) (lo hi : List ℕ) (es : List GraphEdge)
     → AreRowsSummed g labels axis lo hi 0 (get_or lo 2 0) es es
 rows-none g labels axis lo hi es = record {
   gains = gains-nothing g labels (ends_among axis (is_seen g.axes lo hi 0 (get_or lo 2 0))) es
-      (λ x y e. and_none (joins g labels x y e) _ (and_none (eqb (e % 3) axis) _ (seen_none g.axes lo hi (e / 3))));
+      (λ x y e. and_right (joins g labels x y e) _ (and_right (eqb (e % 3) axis) _ (seen_none g.axes lo hi (e / 3))));
   count = omega arith;
 }
 
@@ -87,14 +86,6 @@ rows-first g labels axis lo hi z es fs so_far = record {
       omega (arith, more, so_many);
 }
 
-both_ends : (c p q : Bool) → ((c && p) || (c && q)) ≡ (c && (p || q))
-both_ends true p q = refl
-both_ends false p q = refl
-
-never_ends : (c p q : Bool) → (p && q) ≡ false → ((c && p) && (c && q)) ≡ false
-never_ends true p q apart = apart
-never_ends false p q apart = refl
-
 -- one row more
 pub rows-more : (g : Grid) (labels : List ℕ) (axis : ℕ) (lo hi : List ℕ) (y z : ℕ) (es fs gs : List GraphEdge)
     → IsBox g.axes lo hi → IsRow lo hi y z → AreRowsSummed g labels axis lo hi y z es fs
@@ -106,10 +97,10 @@ rows-more g labels axis lo hi y z es fs gs box row so_far gained count =
     let q = in_row g.axes lo hi y z in
     record {
       gains = gains-same g labels (λ e. ends_among axis p e || ends_among axis q e) (ends_among axis (is_seen g.axes lo hi (y + 1) z)) es gs
-          (λ e _. both_ends (eqb (e % 3) axis) (p (e / 3)) (q (e / 3))
+          (λ e _. sym (and-or_distrib_left (eqb (e % 3) axis) (p (e / 3)) (q (e / 3)))
           ∙ ap (λ b. eqb (e % 3) axis && b) (seen_more g.axes lo hi y z (e / 3) box row.y_low row.y_high row.z_low row.z_high))
           (gains-both g labels (ends_among axis p) (ends_among axis q) es fs gs
-          (λ e. never_ends (eqb (e % 3) axis) (p (e / 3)) (q (e / 3))
+          (λ e. both_apart (eqb (e % 3) axis) (p (e / 3)) (q (e / 3))
           (seen_apart g.axes lo hi y z (e / 3) box row.y_low row.y_high row.z_low row.z_high)) so_far.gains gained);
       count =
           let so_many = so_far.count in

@@ -1,11 +1,11 @@
 -- Lists of regions and edges that were gathered in a cell make its graph.
-use Rattle.std.proofs.Common.{◌≡◌, ◌≢◌, ◌⊎◌, inl, inr, ℕ, ◌<◌, Bool, true, ◌&&◌, eqb, List, sym, ap, ◌∙◌, subst, arith}
+use Rattle.std.proofs.Common.{◌≡◌, ◌≢◌, ◌⊎◌, inl, inr, ℕ, ◌<◌, Bool, true, ◌&&◌, eqb, List, refl, sym, ap, ◌∙◌, subst, arith}
 use Rattle.std.specs.Prelude.{AllPairs, Contains}
 use Rattle.std.specs.List.{list_any}
-use Rattle.std.proofs.lemmas.Bool.{and_parts, and_from, eqb-true}
-use Rattle.std.proofs.lemmas.Bool.Decides.{nat_tests}
+use Rattle.std.proofs.lemmas.Bool.{and_parts, and_from, eqb-true, eq-eqb}
 use Rattle.std.proofs.lemmas.List.Elements.{All-contains}
 use Rattle.std.proofs.lemmas.List.Folds.{Any-from_list_any, list_any-from_Any}
+use Rattle.std.specs.Cmp.{both_ways}
 use Rattle.agglo_model.specs.Axes.{edge_count, lower_end, higher_end}
 use Rattle.agglo_model.specs.Basins.{label_of}
 use Rattle.agglo_model.specs.Grid.{Grid}
@@ -18,40 +18,31 @@ use Rattle.agglo_model.specs.RegionGraph.{Region, GraphEdge, IsGraph, IsCellGrap
 use Rattle.agglo_model.proofs.ContactEdges.{InContact-from_edge, InContact-names}
 use Rattle.agglo_model.proofs.Freezing.{part_from, occurs_at}
 use Rattle.agglo_model.proofs.GraphContacts.{same_contact, joint-count, contact_in-is}
-use Rattle.agglo_model.proofs.GraphEdges.{between_itself, edge_contact, edge_of_contact}
-use Rattle.agglo_model.proofs.RegionLists.{Ascend, one_region}
+use Rattle.agglo_model.proofs.GraphEdges.{between_itself, edge_contact, edge_of_contact, names_of, same_edges}
+use Rattle.agglo_model.proofs.RegionLists.{Ascend, one_region, named_region}
 use Rattle.agglo_model.proofs.Totals.{total-tie}
 use Rattle.region_graph.specs.Lists.{AreNamed, AreOrdered, AreTouching, SameContacts, SameRegions}
 use Rattle.region_graph.proofs.RegionLists.{has_bit, names_face, same_by_bits, joined_faces-bit}
-use Rattle.region_graph.proofs.VoxelTests.{same_tests}
 
 -- ---- regions by name
 
 any_from : {X : Type 0} (p : X → Bool) (xs : List X) (x : X) → Contains xs x → p x ≡ true → list_any p xs ≡ true
 any_from p xs x (k, below, same) pass = list_any-from_Any p xs (k, x, below, same, pass)
 
-itself : (n : ℕ) → eqb n n ≡ true
-itself n = grind (arith, nat_tests)
-
-named_there : (rs : List Region) (x : ℕ) → is_named rs x ≡ true → (r : Region) × Contains rs r × (r.name ≡ x)
-named_there rs x pass =
-    let found = Any-from_list_any (λ (r : Region). eqb r.name x) rs pass in
-    (found.1, (found.0, found.2, found.3), eqb-true found.1.name x found.4)
-
 there_named : (rs : List Region) (r : Region) → Contains rs r → is_named rs r.name ≡ true
-there_named rs r inside = any_from (λ (s : Region). eqb s.name r.name) rs r inside (itself r.name)
+there_named rs r inside = any_from (λ (s : Region). eqb s.name r.name) rs r inside (eq-eqb r.name r.name refl)
 
 -- where each name stands once, its faces are those of its region
 pub faces_of : (rs : List Region) (r : Region) → Ascend rs → Contains rs r → joined_faces rs r.name ≡ r.faces
 faces_of rs r ascend inside = same_by_bits (joined_faces rs r.name) r.faces (λ i.
     joined_faces-bit rs r.name i
-    ∙ same_tests (list_any (names_face r.name i) rs) (has_bit r.faces i)
+    ∙ both_ways (list_any (names_face r.name i) rs) (has_bit r.faces i)
     (λ pass.
     let found = Any-from_list_any (names_face r.name i) rs pass in
     let parts = and_parts (eqb found.1.name r.name) (has_bit found.1.faces i) found.4 in
     let same = one_region rs found.1 r ascend (found.0, found.2, found.3) inside (eqb-true found.1.name r.name parts.0) in
     ap (λ (s : Region). has_bit s.faces i) (sym same) ∙ parts.1)
-    (λ pass. any_from (names_face r.name i) rs r inside (and_from (eqb r.name r.name) (has_bit r.faces i) (itself r.name) pass)))
+    (λ pass. any_from (names_face r.name i) rs r inside (and_from (eqb r.name r.name) (has_bit r.faces i) (eq-eqb r.name r.name refl) pass)))
 
 -- ---- what was gathered
 
@@ -95,9 +86,6 @@ gathered g c m labels raw_regions regions raw_edges edges found same_names same_
 
 -- ---- names in contact inside the cell occur there
 
-pair_of : (x y a b : ℕ) → are x y a b ≡ true → ((x ≡ a) × (y ≡ b)) ⊎ ((x ≡ b) × (y ≡ a))
-pair_of x y a b pass = grind (arith, nat_tests)
-
 part_at : (c : Chunking) (m : ℕ) (labels : List ℕ) (x v : ℕ) → is_held c m v ≡ true → label_of labels v ≡ x → occurs_in c m labels x ≡ true
 part_at c m labels x v held name = (occurs_at c m labels x).1 (v, part_from c m labels x v held name)
 
@@ -110,7 +98,7 @@ occur_both g c m labels a b same some =
     let held = and_parts (is_held c m (lower_end c.axes e)) (is_held c m (higher_end e)) parts.1 in
     let low = subst (λ z. is_held c m (lower_end z e) ≡ true) same held.0 in
     let names = InContact-names g labels a b (InContact-from_edge g labels a b e parts.0) in
-    let joined = pair_of (lower_label g labels e) (higher_label g labels e) a b
+    let joined = names_of (lower_label g labels e) (higher_label g labels e) a b
     (and_parts (is_contact_edge g labels e) (are (lower_label g labels e) (higher_label g labels e) a b) parts.0).1 in
     let at = by_cases (lower_end g.axes e) (higher_end e) low held.1 joined in
     let some_a = names.0 in
@@ -134,7 +122,7 @@ edge_counts past edges e inside some =
 region_of : (g : Grid) (c : Chunking) (m : ℕ) (labels : List ℕ) (regions : List Region) (edges : List GraphEdge) (x : ℕ)
     → IsGathered g c m labels regions edges → x ≢ 0 → occurs_in c m labels x ≡ true → HasRegion (record { regions = regions; edges = edges }) x
 region_of g c m labels regions edges x all name there =
-    let found = named_there regions x (all.names x name ∙ there) in
+    let found = named_region regions x (all.names x name ∙ there) in
     let r = found.0 in
     (r.faces, subst (λ n. Contains regions (record { name = n; faces = r.faces })) found.2 found.1)
 
@@ -182,9 +170,6 @@ contact_of g c m labels regions edges e same all inside =
     ∙ all.contacts e.a e.b)
     (tie_below g c m labels e.a e.b (inside_counts g c m labels regions edges e all inside))
 
-same_edges : (e f : GraphEdge) → e.a ≡ f.a → e.b ≡ f.b → e.contact ≡ f.contact → e ≡ f
-same_edges e f a b contact = λ i. record { a = a i; b = b i; contact = contact i }
-
 edge_there : (g : Grid) (c : Chunking) (m : ℕ) (labels : List ℕ) (regions : List Region) (edges : List GraphEdge) (e : GraphEdge)
     → c.axes ≡ g.axes → IsGathered g c m labels regions edges → e.a < e.b → 0 < (between_inside g c m labels e.a e.b).count
     → e.contact ≡ between_inside g c m labels e.a e.b → Contains edges e
@@ -204,7 +189,7 @@ region_there : (g : Grid) (c : Chunking) (m : ℕ) (labels : List ℕ) (regions 
     → IsGathered g c m labels regions edges → r.name ≢ 0 → occurs_in c m labels r.name ≡ true → r.faces ≡ touched_faces c m labels r.name
     → Contains regions r
 region_there g c m labels regions edges r all name occurs faces =
-    let found = named_there regions r.name (all.names r.name name ∙ occurs) in
+    let found = named_region regions r.name (all.names r.name name ∙ occurs) in
     let s = found.0 in
     let same_faces : s.faces ≡ r.faces = sym (faces_of regions s all.regions_ascend found.1) ∙ ap (joined_faces regions) found.2
     ∙ all.faces r.name name ∙ sym faces in

@@ -1,22 +1,20 @@
 -- Lists of edges that gain the contacts of the edges that pass a test: none, one, and two tests one after the other.
-use Rattle.std.proofs.Common.{◌≡◌, ℕ, ◌<◌, ◌≤◌, min, max, Bool, true, false, cond, ◌&&◌, ◌||◌, eqb, List, [], ◌∷◌, ◌++◌, refl, sym, ap, ◌∙◌, subst, arith}
-use Rattle.std.proofs.lemmas.Bool.Decides.{nat_tests}
+use Rattle.std.proofs.Common.{◌≡◌, ℕ, ◌<◌, ◌≤◌, min, max, Bool, true, false, cond, ◌&&◌, ◌||◌, eqb, List, [], ◌∷◌, ◌++◌, refl, sym, ap, ◌∙◌, arith}
+use Rattle.std.proofs.Math.Bool.{and-or_distrib_left}
 use mathlib.Core.Path.{fun_ext}
 use Rattle.agglo_model.specs.Axes.{edge_count, is_edge}
 use Rattle.agglo_model.specs.Grid.{Grid, affinity}
 use Rattle.agglo_model.specs.PairOrder.{Contact, added}
 use Rattle.agglo_model.specs.Contacts.{are, is_contact_edge, joins, lower_label, higher_label, total}
 use Rattle.agglo_model.specs.RegionGraph.{GraphEdge, is_between, no_contact, contact_in}
-use Rattle.agglo_model.proofs.GraphContacts.{joint-append, joint-tie-le, contact_in-is, added_assoc, added-none}
+use Rattle.agglo_model.proofs.GraphContacts.{joint-append, contact_in-is, added_assoc, added-none, contact_in-tie-le}
 use Rattle.agglo_model.proofs.Totals.{total-both}
+use Rattle.agglo_model.proofs.Tests.{both_apart, alike}
+use Rattle.agglo_model.proofs.EdgeLists.{order_test}
 use Rattle.region_graph.specs.Lists.{AreOrdered, SameContacts}
 use Rattle.region_graph.specs.Boxes.{GainsContacts}
 use Rattle.region_graph.proofs.OneEdge.{total-nothing, total-here}
 use Rattle.region_graph.proofs.EdgeSums.{joint-one}
-
-contact_in-tie-le : (past x y : ℕ) (es : List GraphEdge) → (contact_in past es x y).tie ≤ past
-contact_in-tie-le past x y es =
-    subst (λ c. c.tie ≤ past) (sym (contact_in-is past x y es)) (joint-tie-le past (is_between x y) es)
 
 -- where no contact edge passes the test, nothing is gained
 pub gains-nothing : (g : Grid) (labels : List ℕ) (test : ℕ → Bool) (es : List GraphEdge)
@@ -27,14 +25,6 @@ gains-nothing g labels test es fails = record {
       sym (added-none (edge_count g.axes) (contact_in (edge_count g.axes) es x y) (contact_in-tie-le (edge_count g.axes) x y es))
       ∙ ap (added (contact_in (edge_count g.axes) es x y)) (sym (total-nothing g (λ e. joins g labels x y e && test e) (fails x y)));
 }
-
-both_ways : (j p q : Bool) → (j && (p || q)) ≡ ((j && p) || (j && q))
-both_ways true p q = refl
-both_ways false p q = refl
-
-never_both : (j p q : Bool) → (p && q) ≡ false → ((j && p) && (j && q)) ≡ false
-never_both true p q apart = apart
-never_both false p q apart = refl
 
 -- two tests that no edge passes both, one after the other
 pub gains-both : (g : Grid) (labels : List ℕ) (p q : ℕ → Bool) (es fs gs : List GraphEdge)
@@ -49,13 +39,9 @@ gains-both g labels p q es fs gs apart one other = record {
       ∙ ap (λ c. added c (total g (λ e. j e && q e))) (one.contacts x y)
       ∙ added_assoc (contact_in n es x y) (total g (λ e. j e && p e)) (total g (λ e. j e && q e))
       ∙ ap (added (contact_in n es x y))
-      (sym (total-both g (λ e. j e && p e) (λ e. j e && q e) (λ e. never_both (j e) (p e) (q e) (apart e)))
-      ∙ ap (total g) (fun_ext (λ e. sym (both_ways (j e) (p e) (q e)))));
+      (sym (total-both g (λ e. j e && p e) (λ e. j e && q e) (λ e. both_apart (j e) (p e) (q e) (apart e)))
+      ∙ ap (total g) (fun_ext (λ e. sym (and-or_distrib_left (j e) (p e) (q e)))));
 }
-
-alike : (i d a p q : Bool) → (i ≡ true → p ≡ q) → (((i && d) && a) && p) ≡ (((i && d) && a) && q)
-alike true d a p q same = ap (λ t. (d && a) && t) (same refl)
-alike false d a p q same = refl
 
 -- tests that agree on edges
 pub gains-same : (g : Grid) (labels : List ℕ) (p q : ℕ → Bool) (es fs : List GraphEdge)
@@ -77,9 +63,6 @@ alone g labels k = record {
   b = max (lower_label g labels k) (higher_label g labels k);
   contact = record { sum = affinity g k; count = 1; tie = k };
 }
-
-order_test : (a b x y : ℕ) → are (min a b) (max a b) x y ≡ are a b x y
-order_test a b x y = grind (arith, nat_tests)
 
 joins-alone : (g : Grid) (labels : List ℕ) (x y k : ℕ) → is_contact_edge g labels k ≡ true
     → joins g labels x y k ≡ is_between x y (alone g labels k)

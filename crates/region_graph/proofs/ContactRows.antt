@@ -1,6 +1,6 @@
 -- The contact edges of a run of voxels on one axis, voxel by voxel.
 use Rattle.std.proofs.Common.{◌≡◌, ◌≢◌, ◌⊎◌, ℕ, ◌+◌, ◌*◌, ◌-◌, ◌/◌, ◌%◌, ◌<◌, ◌≤◌, min, max, Bool, true, false, not, ◌&&◌, ◌||◌, eqb, ltb, leb, List, [], ◌∷◌, ◌++◌, refl, sym, ap, ◌∙◌, subst, arith}
-use Rattle.std.proofs.lemmas.Bool.{and_from, lt-ltb, eqb-true, false≢true}
+use Rattle.std.proofs.lemmas.Bool.{and_from, lt-ltb, eqb-true, false≢true, and_right}
 use Rattle.std.proofs.lemmas.Bool.Decides.{nat_tests}
 use Rattle.agglo_model.specs.Axes.{voxel_count, edge_count, coordinate, stride, is_edge}
 use Rattle.agglo_model.specs.Basins.{label_of}
@@ -62,10 +62,6 @@ apart_of axis from v e below = grind (arith, nat_tests)
 none_of : (axis from e : ℕ) → (eqb (e % 3) axis && (leb from (e / 3) && ltb (e / 3) from)) ≡ false
 none_of axis from e = grind (arith, nat_tests)
 
-and_false : (b c : Bool) → c ≡ false → (b && c) ≡ false
-and_false true c none = none
-and_false false c none = refl
-
 -- the contacts of the run up to v were gained, at most one edge of the grid for each voxel
 pub record IsSummedTo (g : Grid) (labels : List ℕ) (axis from v : ℕ) (before now : List GraphEdge) : Type 0 where
   pub gains : GainsContacts g labels (ends_among axis (in_run from v)) before now
@@ -74,7 +70,7 @@ pub record IsSummedTo (g : Grid) (labels : List ℕ) (axis from v : ℕ) (before
 pub summed_none : (g : Grid) (labels : List ℕ) (axis from : ℕ) (es : List GraphEdge) → IsSummedTo g labels axis from from es es
 summed_none g labels axis from es = record {
   gains = gains-nothing g labels (ends_among axis (in_run from from)) es
-      (λ x y e. and_false (joins g labels x y e) (ends_among axis (in_run from from) e) (none_of axis from e));
+      (λ x y e. and_right (joins g labels x y e) (ends_among axis (in_run from from) e) (none_of axis from e));
   count = omega arith;
 }
 

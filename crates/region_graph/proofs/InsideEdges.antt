@@ -1,6 +1,7 @@
 -- Edges inside the cell of a node: their higher ends lie in the cell without its lowest layer on their axis.
 use Rattle.std.proofs.Common.{◌≡◌, ℕ, ◌+◌, ◌*◌, ◌-◌, ◌%◌, ◌<◌, cond, ◌&&◌, eqb, ltb, List, length, get_or, IsTrue, refl, sym, ap, ◌∙◌, arith}
 use Rattle.std.proofs.lemmas.Bool.{and_parts, and_from, ltb-true, lt-ltb}
+use Rattle.std.specs.Cmp.{both_ways}
 use Rattle.agglo_model.specs.Axes.{Axes, IsWithinLimits, IsPlace, voxel_count, voxel_at, coordinate, stride, is_edge, lower_end, higher_end}
 use Rattle.agglo_model.specs.Cell.{IsInBox}
 use Rattle.agglo_model.specs.Cutting.{Chunking, IsChunking, node_count, low_corner, high_corner}
@@ -8,7 +9,7 @@ use Rattle.agglo_model.specs.Freezing.{is_inside}
 use Rattle.agglo_model.proofs.Edges.{each_axis, edge_is, higher_end_below, lower_below_higher, lower-stride}
 use Rattle.agglo_model.proofs.Places.{place-voxel, voxel_at-place, coordinate-voxel_at_x, coordinate-voxel_at_y, coordinate-voxel_at_z}
 use Rattle.region_graph.specs.Boxes.{in_box, above_lowest}
-use Rattle.region_graph.proofs.VoxelTests.{same_tests, in_box-is, in_box-from}
+use Rattle.region_graph.proofs.VoxelTests.{in_box-is, in_box-from}
 use Rattle.region_graph.proofs.Layers.{above_in, cell_held}
 
 -- v lies one step below w on an axis
@@ -113,7 +114,7 @@ ends_inside a limits lo hi e len edge =
     let w_voxel = higher_end_below a e edge in
     let v_voxel : v < voxel_count a = omega (arith, lower_below_higher a e edge, w_voxel) in
     above_in a lo hi axis w three len
-    ∙ same_tests (in_box a lo hi w && ltb (get_or lo axis 0) (coordinate a w axis)) (in_box a lo hi v && in_box a lo hi w)
+    ∙ both_ways (in_box a lo hi w && ltb (get_or lo axis 0) (coordinate a w axis)) (in_box a lo hi v && in_box a lo hi w)
     (λ pass.
     let parts = and_parts (in_box a lo hi w) (ltb (get_or lo axis 0) (coordinate a w axis)) pass in
     let inside = in_box-is a lo hi w parts.0 in

@@ -1,21 +1,20 @@
 -- The cell of a node as a box, and its layers.
-use Rattle.std.proofs.Common.{◌≡◌, ℕ, zero, suc, ◌+◌, ◌*◌, ◌-◌, ◌^◌, ◌<◌, ◌≤◌, min, Bool, ◌&&◌, eqb, ltb, leb, List, [], ◌∷◌, length, get_or, refl, sym, ap, ◌∙◌, subst, arith}
+use Rattle.std.proofs.Common.{◌≡◌, ℕ, ◌+◌, ◌-◌, ◌^◌, ◌<◌, ◌≤◌, Bool, ◌&&◌, eqb, ltb, leb, List, [], ◌∷◌, length, get_or, refl, sym, ap, ◌∙◌, subst, arith}
 use Rattle.std.proofs.lemmas.Bool.Decides.{nat_tests}
+use Rattle.std.specs.Cmp.{both_ways}
 use Rattle.agglo_model.specs.Axes.{Axes, IsWithinLimits, voxel_count, coordinate}
-use Rattle.agglo_model.specs.Cutting.{Chunking, IsChunking, length_on, cells_at, last_level, node_count, level_of, cell_length, cell_place, cell_low, cell_high, cells_on, low_corner, high_corner}
+use Rattle.agglo_model.specs.Cutting.{Chunking, IsChunking, length_on, node_count, level_of, cell_length, cell_place, cell_low, cell_high, cells_on, low_corner, high_corner}
 use Rattle.agglo_model.specs.Freezing.{is_held}
 use Rattle.agglo_model.proofs.CellBoxes.{cells_are_boxes}
 use Rattle.agglo_model.proofs.Edges.{each_axis}
 use Rattle.agglo_model.proofs.Freezing.{held_voxel}
-use Rattle.agglo_model.proofs.Levels.{cell_length_pos, first_node_le}
+use Rattle.agglo_model.proofs.Levels.{cell_length_pos}
 use Rattle.agglo_model.proofs.NodeCells.{node_place, cell_begins}
+use Rattle.agglo_model.proofs.Cases.{begins_before}
 use Rattle.region_graph.specs.Boxes.{IsBox, IsSomeBox, in_box, in_span, above_lowest, lowest_to, highest_from}
-use Rattle.region_graph.proofs.VoxelTests.{same_tests, in_box-is, in_box-from, in_box-voxel}
+use Rattle.region_graph.proofs.VoxelTests.{in_box-is, in_box-from, in_box-voxel}
 
 -- ---- the cell of a node
-
-begins_before : (i l n : ℕ) → 0 < l → i * l < n → i * l < min ((i + 1) * l) n
-begins_before i l n some begins = omega arith
 
 cell_some : (c : Chunking) → IsChunking c → (m axis : ℕ) → cell_place c m axis < cells_on c (level_of c m) axis
     → cell_low c m axis < cell_high c m axis
@@ -54,14 +53,10 @@ corners_box c a m lo hi h same node corners =
 pub corners_three : (c : Chunking) (m : ℕ) (lo hi : List ℕ) → AreCorners c m lo hi → (length lo ≡ 3) × (length hi ≡ 3)
 corners_three c m lo hi corners = (ap length corners.low, ap length corners.high)
 
--- a leaf is a node
-pub leaf_is_node : (c : Chunking) (m : ℕ) → m < cells_at c 0 → m < node_count c
-leaf_is_node c m leaf = omega (arith, first_node_le c (suc zero) (suc (last_level c)) (omega arith))
-
 -- the voxels of the cell
 pub cell_held : (c : Chunking) → IsChunking c → (m v : ℕ) → m < node_count c
     → in_box c.axes (low_corner c m) (high_corner c m) v ≡ is_held c m v
-cell_held c h m v node = same_tests (in_box c.axes (low_corner c m) (high_corner c m) v) (is_held c m v)
+cell_held c h m v node = both_ways (in_box c.axes (low_corner c m) (high_corner c m) v) (is_held c m v)
     (λ inside.
     let below = in_box-voxel c.axes (low_corner c m) (high_corner c m) v inside in
     (cells_are_boxes c m v h node below).1 (in_box-is c.axes (low_corner c m) (high_corner c m) v inside))

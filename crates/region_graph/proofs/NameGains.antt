@@ -8,6 +8,8 @@ use Rattle.std.proofs.lemmas.List.{map-append, append-nil}
 use Rattle.std.proofs.lemmas.List.Sums.{fold_push}
 use Rattle.std.proofs.lemmas.List.Folds.{Any-from_list_any, list_any-append, list_any_at}
 use Rattle.std.proofs.lemmas.List.FromFn.{length-range_with_len, get_or-range_with_len}
+use Rattle.std.proofs.Math.Bool.{or-false, or_assoc, and-or_distrib_right, or_self}
+use Rattle.std.specs.Cmp.{both_ways}
 use mathlib.Core.Path.{fun_ext}
 use Rattle.agglo_model.specs.Axes.{Axes, voxel_count}
 use Rattle.agglo_model.specs.Basins.{label_of}
@@ -16,7 +18,6 @@ use Rattle.agglo_model.specs.RegionGraph.{Region}
 use Rattle.region_graph.specs.Lists.{AreNamed, SameRegions}
 use Rattle.region_graph.specs.Boxes.{GainsNames, in_run, name_among}
 use Rattle.region_graph.proofs.RegionLists.{has_bit, has_bit-or, same_by_bits}
-use Rattle.region_graph.proofs.VoxelTests.{same_tests}
 
 -- ---- names among the voxels that pass a test
 
@@ -44,13 +45,6 @@ among_is a labels test x pass =
     let at_index = sym found.3 ∙ get_or-range_with_len 0 (voxel_count a) found.0 found.1 index in
     record { voxel = found.1; below = omega (arith, at_index); passes = parts.0; name = eqb-true (label_of labels found.1) x parts.1 }
 
-either_of : (p q l : Bool) → ((p || q) && l) ≡ ((p && l) || (q && l))
-either_of true true true = refl
-either_of true true false = refl
-either_of true false true = refl
-either_of true false false = refl
-either_of false q l = refl
-
 mix_of : (b c d e : Bool) → ((b || c) || (d || e)) ≡ ((b || d) || (c || e))
 mix_of true c d e = refl
 mix_of false true true e = refl
@@ -65,19 +59,16 @@ pub among-either : (a : Axes) (labels : List ℕ) (p q : ℕ → Bool) (x : ℕ)
     → name_among a labels (λ v. p v || q v) x ≡ (name_among a labels p x || name_among a labels q x)
 among-either a labels p q x =
     let vs = range_with_len 0 (voxel_count a) in
-    ap (λ test. list_any test vs) (fun_ext (λ v. either_of (p v) (q v) (eqb (label_of labels v) x)))
+    ap (λ test. list_any test vs) (fun_ext (λ v. and-or_distrib_right (p v) (q v) (eqb (label_of labels v) x)))
     ∙ any_or (λ v. p v && eqb (label_of labels v) x) (λ v. q v && eqb (label_of labels v) x) vs
 
 -- one voxel
-itself : (k : ℕ) → eqb k k ≡ true
-itself k = grind (arith, nat_tests)
-
 pub among-one : (a : Axes) (labels : List ℕ) (k x : ℕ) → k < voxel_count a
     → name_among a labels (λ v. eqb v k) x ≡ eqb (label_of labels k) x
-among-one a labels k x below = same_tests (name_among a labels (λ v. eqb v k) x) (eqb (label_of labels k) x)
+among-one a labels k x below = both_ways (name_among a labels (λ v. eqb v k) x) (eqb (label_of labels k) x)
     (λ pass. let at = among_is a labels (λ v. eqb v k) x pass in
     eq-eqb (label_of labels k) x (ap (label_of labels) (sym (eqb-true at.voxel k at.passes)) ∙ at.name))
-    (λ pass. among_from a labels (λ v. eqb v k) x k below (itself k) (eqb-true (label_of labels k) x pass))
+    (λ pass. among_from a labels (λ v. eqb v k) x k below (eq-eqb k k refl) (eqb-true (label_of labels k) x pass))
 
 -- ---- what a list gains
 
@@ -106,15 +97,11 @@ names-equal a b labels other p q faces bits es fs axes_are labels_are tests bits
     (subst (λ z. GainsNames a z q bits es fs) labels_are
     (subst (λ z. GainsNames a labels q z es fs) bits_are (names-test a labels p q faces es fs tests gained)))
 
-or_nothing : (b : Bool) → b ≡ (b || false)
-or_nothing true = refl
-or_nothing false = refl
-
 pub names-nothing : (a : Axes) (labels : List ℕ) (test : ℕ → Bool) (faces : ℕ) (es : List Region)
     → ((v : ℕ) → test v ≡ false) → GainsNames a labels test faces es es
 names-nothing a labels test faces es fails = record {
   named = λ named. named;
-  names = λ x name. or_nothing (is_named es x) ∙ ap (λ b. is_named es x || b) (sym (none x));
+  names = λ x name. sym (or-false (is_named es x)) ∙ ap (λ b. is_named es x || b) (sym (none x));
   with_faces = λ x name. ap (λ b. cond b (bit_or (joined_faces es x) faces) (joined_faces es x)) (sym (none x));
 }
   where
@@ -122,19 +109,11 @@ names-nothing a labels test faces es fails = record {
     none x = false_from_ne_true (name_among a labels test x) (λ pass.
         let at = among_is a labels test x pass in false≢true (sym (fails at.voxel) ∙ at.passes))
 
-or_together : (b c d : Bool) → ((b || c) || d) ≡ (b || (c || d))
-or_together true c d = refl
-or_together false c d = refl
-
-or_twice : (b c : Bool) → ((b || c) || c) ≡ (b || c)
-or_twice true c = refl
-or_twice false true = refl
-or_twice false false = refl
-
 or_again : (f b : ℕ) → bit_or (bit_or f b) b ≡ bit_or f b
 or_again f b = same_by_bits (bit_or (bit_or f b) b) (bit_or f b) (λ i.
     has_bit-or (bit_or f b) b i ∙ ap (λ t. t || has_bit b i) (has_bit-or f b i)
-    ∙ or_twice (has_bit f i) (has_bit b i) ∙ sym (has_bit-or f b i))
+    ∙ or_assoc (has_bit f i) (has_bit b i) (has_bit b i) ∙ ap (λ t. has_bit f i || t) (or_self (has_bit b i))
+    ∙ sym (has_bit-or f b i))
 
 faces_twice : (p q : Bool) (f b : ℕ)
     → cond q (bit_or (cond p (bit_or f b) f) b) (cond p (bit_or f b) f) ≡ cond (p || q) (bit_or f b) f
@@ -150,7 +129,7 @@ names-both a labels p q faces es fs gs one other = record {
   named = λ named. other.named (one.named named);
   names = λ x name.
       other.names x name ∙ ap (λ b. b || name_among a labels q x) (one.names x name)
-      ∙ or_together (is_named es x) (name_among a labels p x) (name_among a labels q x)
+      ∙ or_assoc (is_named es x) (name_among a labels p x) (name_among a labels q x)
       ∙ ap (λ b. is_named es x || b) (sym (among-either a labels p q x));
   with_faces = λ x name.
       other.with_faces x name

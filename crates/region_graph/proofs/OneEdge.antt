@@ -1,7 +1,7 @@
 -- The total of one edge, and of none.
 use Rattle.std.proofs.Common.{◌≡◌, ◌⊎◌, inl, inr, ℕ, zero, suc, ◌+◌, ◌<◌, ◌≤◌, Bool, true, false, cond, ◌&&◌, eqb, sum_by, refl, sym, ap, ◌∙◌, arith}
 use Rattle.std.specs.List.{range_with_len}
-use Rattle.std.proofs.lemmas.Bool.{cases_lt, eqb-true, false≢true}
+use Rattle.std.proofs.lemmas.Bool.{cases_lt, eqb-true, false≢true, eq-eqb}
 use Rattle.std.proofs.lemmas.Bool.Decides.{nat_tests}
 use Rattle.std.proofs.lemmas.List.Sums.{sum_by-cons}
 use mathlib.Core.Path.{fun_ext}
@@ -60,9 +60,6 @@ sum_at f k (suc n) a from to =
     sum_by-cons (λ e. cond (eqb e k) (f e) 0) a (range_with_len (a + 1) n)
     ∙ sum_at_step f k n a to from (λ more. sum_at f k n (a + 1) more (omega arith)) (eqb a k) refl
 
-itself : (k : ℕ) → eqb k k ≡ true
-itself k = grind (arith, nat_tests)
-
 sum-one : (g : Grid) (k : ℕ) → k < edge_count g.axes → (total g (λ e. eqb e k)).sum ≡ affinity g k
 unfolding total
 sum-one g k below = sum_at (affinity g) k (edge_count g.axes) 0 (omega arith) (omega arith)
@@ -75,7 +72,7 @@ count-one g k below = sum_at (λ e. 1) k (edge_count g.axes) 0 (omega arith) (om
 pub total-one : (g : Grid) (k : ℕ) → k < edge_count g.axes
     → total g (λ e. eqb e k) ≡ record { sum = affinity g k; count = 1; tie = k }
 total-one g k below =
-    let some = total-some g (λ e. eqb e k) k below (itself k) in
+    let some = total-some g (λ e. eqb e k) k below (eq-eqb k k refl) in
     let tie = eqb-true (total g (λ e. eqb e k)).tie k (total-tie g (λ e. eqb e k) some).1 in
     same_contact (total g (λ e. eqb e k)) (record { sum = affinity g k; count = 1; tie = k })
     (sum-one g k below) (count-one g k below) tie

@@ -8,6 +8,7 @@ use Rattle.std.proofs.lemmas.Bool.Decides.{nat_tests}
 use Rattle.std.proofs.lemmas.Nat.Bits.{bit_at_or, bit_at-lt, bit_at-zero, same_from_bits}
 use Rattle.std.proofs.lemmas.List.Folds.{list_any-append}
 use Rattle.std.proofs.lemmas.List.Sorted.{list_any-IsPermutation}
+use Rattle.std.proofs.Math.Bool.{or-false, or_assoc, or_self_left}
 use Rattle.agglo_model.specs.Joining.{is_named, joined_faces}
 use Rattle.agglo_model.specs.RegionGraph.{Region}
 use Rattle.region_graph.specs.Lists.{SameRegions}
@@ -33,14 +34,6 @@ same_by_bits a b h = same_from_bits a b (λ i. one_or_none (bit_at a i) (bit_at 
 abbrev pub names_face : ℕ → ℕ → Region → Bool
 names_face x i r = eqb r.name x && has_bit r.faces i
 
-or_middle : (a b c : Bool) → ((a || b) || c) ≡ (a || (b || c))
-or_middle true b c = refl
-or_middle false b c = refl
-
-or_nothing : (b : Bool) → b ≡ (b || false)
-or_nothing true = refl
-or_nothing false = refl
-
 abbrev faces_from : ℕ → List Region → ℕ → ℕ
 faces_from first regions x = fold bit_or first (map (λ r. r.faces) (filter (λ r. eqb r.name x) regions))
 
@@ -56,14 +49,14 @@ step_bit : (b : Bool) (first : ℕ) (r : Region) (regions : List Region) (x i : 
     ≡ (has_bit first i || list_any (names_face x i) (r ∷ regions))
 step_bit true first r regions x i is =
     ap (λ b. b || list_any (names_face x i) regions) (has_bit-or first r.faces i)
-    ∙ or_middle (has_bit first i) (has_bit r.faces i) (list_any (names_face x i) regions)
+    ∙ or_assoc (has_bit first i) (has_bit r.faces i) (list_any (names_face x i) regions)
     ∙ ap (λ b. has_bit first i || ((b && has_bit r.faces i) || list_any (names_face x i) regions)) (sym is)
 step_bit false first r regions x i is =
     ap (λ b. has_bit first i || ((b && has_bit r.faces i) || list_any (names_face x i) regions)) (sym is)
 
 faces_from-bit : (first : ℕ) (regions : List Region) (x i : ℕ)
     → has_bit (faces_from first regions x) i ≡ (has_bit first i || list_any (names_face x i) regions)
-faces_from-bit first [] x i = or_nothing (has_bit first i)
+faces_from-bit first [] x i = sym (or-false (has_bit first i))
 faces_from-bit first (r ∷ regions) x i =
     let b = eqb r.name x in
     ap (λ n. has_bit n i) (fold_cons b first r regions x refl)
@@ -111,19 +104,15 @@ agree-refl regions = record { names = λ x. refl; faces = λ x i. refl }
 pub agree-trans : (es fs gs : List Region) → AgreeInTests es fs → AgreeInTests fs gs → AgreeInTests es gs
 agree-trans es fs gs h g = record { names = λ x. g.names x ∙ h.names x; faces = λ x i. g.faces x i ∙ h.faces x i }
 
-twice : (b : Bool) → (b || false) ≡ (b || (b || false))
-twice true = refl
-twice false = refl
-
 both_bits : (b c d : Bool) → ((b && (c || d)) || false) ≡ ((b && c) || ((b && d) || false))
-both_bits true c d = or_middle c d false
+both_bits true c d = or_assoc c d false
 both_bits false c d = refl
 
 -- two regions of one name are as good as one with the faces of both
 pub agree-joined : (r s both : Region) → s.name ≡ r.name → both ≡ record r { faces = bit_or r.faces s.faces }
     → AgreeInTests (r ∷ s ∷ []) (both ∷ [])
 agree-joined r s both named both_is = subst (λ z. AgreeInTests (r ∷ s ∷ []) (z ∷ [])) (sym both_is) (record {
-  names = λ x. twice (eqb r.name x) ∙ ap (λ n. eqb r.name x || (eqb n x || false)) (sym named);
+  names = λ x. sym (or_self_left (eqb r.name x) false) ∙ ap (λ n. eqb r.name x || (eqb n x || false)) (sym named);
   faces = λ x i. ap (λ b. (eqb r.name x && b) || false) (has_bit-or r.faces s.faces i)
       ∙ both_bits (eqb r.name x) (has_bit r.faces i) (has_bit s.faces i)
       ∙ ap (λ n. (eqb r.name x && has_bit r.faces i) || ((eqb n x && has_bit s.faces i) || false)) (sym named);

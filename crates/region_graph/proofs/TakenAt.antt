@@ -4,6 +4,7 @@ use Rattle.std.specs.List.{list_any}
 use Rattle.std.proofs.lemmas.List.Sums.{sum_by-set}
 use Rattle.std.proofs.lemmas.List.Elements.{All-get_or, All-set}
 use Rattle.std.proofs.lemmas.List.Folds.{list_any-append}
+use Rattle.std.proofs.Math.Bool.{or_self, and-or_distrib_left}
 use Rattle.agglo_model.specs.PairOrder.{Contact, added}
 use Rattle.agglo_model.specs.Contacts.{are}
 use Rattle.agglo_model.specs.RegionGraph.{Region, GraphEdge, is_between, no_contact, contact_in}
@@ -75,14 +76,6 @@ set_any p (z ∷ xs) zero y x d below both =
     ∙ ap (λ b. p z || b) (sym (list_any-append p xs (x ∷ [])))
 set_any p (z ∷ xs) (suc i) y x d below both = ap (λ b. p z || b) (set_any p xs i y x d (omega arith) both)
 
-twice : (b : Bool) → b ≡ (b || b)
-twice true = refl
-twice false = refl
-
-both_of : (n a b : Bool) → (n && (a || b)) ≡ ((n && a) || (n && b))
-both_of true a b = refl
-both_of false a b = refl
-
 module _ (rs qs : List Region) (i : ℕ) (r d : Region) (below : i < length rs) (name : (get_or rs i d).name ≡ r.name)
     (qs_is : qs ≡ set rs i (with_faces_of (get_or rs i d) r)) where
   pub taken_at-regions : SameRegions (rs ++ r ∷ []) qs
@@ -91,10 +84,10 @@ module _ (rs qs : List Region) (i : ℕ) (r d : Region) (below : i < length rs) 
       let w = with_faces_of l r in
       subst (SameRegions (rs ++ r ∷ [])) (sym qs_is) (same_regions (rs ++ r ∷ []) (set rs i w) (record {
         names = λ x. set_any (λ (q : Region). eqb q.name x) rs i w r d below
-            (twice (eqb l.name x) ∙ (λ k. eqb l.name x || eqb (name k) x));
+            (sym (or_self (eqb l.name x)) ∙ (λ k. eqb l.name x || eqb (name k) x));
         faces = λ x b. set_any (names_face x b) rs i w r d below
             (ap (λ t. eqb l.name x && t) (has_bit-or l.faces r.faces b)
-            ∙ both_of (eqb l.name x) (has_bit l.faces b) (has_bit r.faces b)
+            ∙ and-or_distrib_left (eqb l.name x) (has_bit l.faces b) (has_bit r.faces b)
             ∙ (λ k. (eqb l.name x && has_bit l.faces b) || (eqb (name k) x && has_bit r.faces b)));
       }))
 

@@ -1,16 +1,11 @@
 -- Boxes of voxels gone over row by row: which voxels have been seen, and which are in the next row.
-use Rattle.std.proofs.Common.{◌≡◌, ℕ, ◌+◌, ◌-◌, ◌<◌, ◌≤◌, Bool, true, false, ◌&&◌, ◌||◌, eqb, ltb, leb, List, get_or, refl, sym, ap, ◌∙◌, subst, arith}
+use Rattle.std.proofs.Common.{◌≡◌, ℕ, ◌+◌, ◌-◌, ◌<◌, ◌≤◌, Bool, true, false, ◌&&◌, ◌||◌, eqb, ltb, leb, List, get_or, sym, ap, ◌∙◌, subst, arith}
 use Rattle.std.proofs.lemmas.Bool.Decides.{nat_tests}
+use Rattle.std.specs.Cmp.{both_ways}
 use Rattle.agglo_model.specs.Axes.{Axes, IsPlace, voxel_count, voxel_at, coordinate}
 use Rattle.agglo_model.specs.Cell.{IsInBox}
 use Rattle.agglo_model.proofs.Places.{voxel_at-lt, voxel_at-place, coordinate-voxel_at_x, coordinate-voxel_at_y, coordinate-voxel_at_z}
 use Rattle.region_graph.specs.Boxes.{IsBox, in_box, in_run, in_span}
-
--- two tests are equal where each passes with the other
-pub same_tests : (a b : Bool) → (a ≡ true → b ≡ true) → (b ≡ true → a ≡ true) → a ≡ b
-same_tests true b there back = sym (there refl)
-same_tests false true there back = back refl
-same_tests false false there back = refl
 
 -- ---- voxels in a box
 
@@ -139,7 +134,7 @@ in_row_from a lo hi y z v pass on_y on_z =
 row_is : (a : Axes) (lo hi : List ℕ) (y z v : ℕ) → IsBox a lo hi → get_or lo 1 0 ≤ y → y < get_or hi 1 0
     → get_or lo 2 0 ≤ z → z < get_or hi 2 0
     → in_row a lo hi y z v ≡ (in_box a lo hi v && (eqb (coordinate a v 2) z && eqb (coordinate a v 1) y))
-row_is a lo hi y z v box y_low y_high z_low z_high = same_tests (in_row a lo hi y z v) _
+row_is a lo hi y z v box y_low y_high z_low z_high = both_ways (in_row a lo hi y z v) _
     (λ pass. let at = row_place a lo hi y z v box y_low y_high z_low z_high pass in
     whole (in_box a lo hi v) (coordinate a v 2) z (coordinate a v 1) y at.0 at.2 at.1)
     (λ pass. let at = parts (in_box a lo hi v) (coordinate a v 2) z (coordinate a v 1) y pass in

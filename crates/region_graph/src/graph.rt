@@ -6,7 +6,7 @@ use mean_fraction::Contact;
 use std::marker::Model;
 
 /// A name in a cell.
-#[derive(Clone, Copy, Debug, PartialEq, Eq)]
+#[derive(Clone, Copy)]
 pub struct Region {
     /// The label of its voxels.
     pub name: u32,
@@ -26,7 +26,7 @@ impl Model for Region {
 }
 
 /// Two names in contact.
-#[derive(Clone, Copy, Debug, PartialEq, Eq)]
+#[derive(Clone, Copy)]
 pub struct Edge {
     /// The smaller name.
     pub a: u32,

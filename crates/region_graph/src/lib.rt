@@ -2,7 +2,6 @@
 //! cell of a leaf.
 //!
 //! It stands on `volume_file` for affinities, on `chunk_tree` for cells and on `mean_fraction` for contacts.
-//! Its tests take labels from `steepest_ascent`.
 //! What merges regions and what joins the graphs of children stands on it.
 #![tactic(auto)]
 
@@ -14,8 +13,6 @@ mod names;
 mod recent;
 mod site;
 mod sums;
-#[cfg(test)]
-mod tests;
 
 pub use contacts::add_contacts;
 pub use graph::{Edge, Graph, Parts, Region, Residue};

@@ -6,7 +6,7 @@ ghost use Rattle.agglo_model.specs.Cell.{IsInBox};
 use crate::dims::Dims;
 
 /// A box of voxels: on the x, y and z axis the coordinates from `lo` up to, but not including, `hi`.
-#[derive(Clone, Copy, Debug, PartialEq, Eq)]
+#[derive(Clone, Copy, Debug, PartialEq)]
 pub struct Cell {
     pub lo: [u32; 3],
     pub hi: [u32; 3],

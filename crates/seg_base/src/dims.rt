@@ -11,7 +11,7 @@ const LONGEST_AXIS: u32 = 65_535;
 const MOST_VOXELS: u64 = 1 << 28;
 
 /// Why three numbers are no axes of a volume. Axis 0 is x, 1 is y and 2 is z.
-#[derive(Clone, Copy, Debug, PartialEq, Eq)]
+#[derive(Clone, Copy, Debug)]
 pub enum DimFault {
     /// This axis is the first of length 0.
     AxisZero(u8),
@@ -22,7 +22,7 @@ pub enum DimFault {
 }
 
 /// The lengths of a volume's axes in voxels: each from 1 to 65,535, and together at most 2^28 voxels.
-#[derive(Clone, Copy, Debug, PartialEq, Eq)]
+#[derive(Clone, Copy, Debug, PartialEq)]
 pub struct Dims {
     nx: u32,
     ny: u32,

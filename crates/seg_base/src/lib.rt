@@ -7,8 +7,6 @@
 mod cell;
 mod dims;
 mod labels;
-#[cfg(test)]
-mod tests;
 
 pub use cell::Cell;
 pub use dims::{DimFault, Dims};

@@ -76,3 +76,8 @@ takes_more n old now new e t = record {
   count = n + t.count;
   after = t.after ∙ (ap (taken t.count) e ∙ taken-taken n t.count old);
 }
+
+-- what is left of the input after n bytes
+pub left_of : (n : ℕ) (old now : DeskState) (P : List ℕ → Type 0) → now ≡ taken n old → IfSome now.input P
+    → IfSome (option_map (drop n) old.input) P
+left_of n old now P e h = subst (λ (s : DeskState). IfSome s.input P) e h

@@ -4,7 +4,7 @@ ghost use Rattle.seg_io.specs.Desk.{DeskState, IsOpen, CanOpen, OpensInput, Fail
 use crate::port::Port;
 
 /// A fault of the outside: a device, or a name that no file has.
-#[derive(Clone, Copy, Debug, PartialEq, Eq)]
+#[derive(Clone, Copy, Debug)]
 pub struct Failed;
 
 /// What the program sees of the world: one input at a time, and five ports to write on.

@@ -23,6 +23,3 @@ pub use memory_desk::{CallKind, MemoryDesk, Side};
 pub use piecer::Piecer;
 pub use pieces::{PIECE_LENGTH, fill, put_all};
 pub use port::Port;
-
-#[cfg(test)]
-mod tests;

@@ -15,7 +15,7 @@ use std::alloc::Global;
 use std::marker::Model;
 
 /// The calls of a desk, a kind for each count of its own.
-#[derive(Clone, Copy, Debug, PartialEq, Eq)]
+#[derive(Clone, Copy)]
 pub enum CallKind {
     /// `Desk::open_in`.
     OpenIn,
@@ -28,7 +28,7 @@ pub enum CallKind {
 }
 
 /// The sides of a desk that count faults.
-#[derive(Clone, Copy, Debug, PartialEq, Eq)]
+#[derive(Clone, Copy)]
 pub enum Side {
     /// The input: it is opened and read.
     Input,

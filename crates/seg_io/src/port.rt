@@ -1,5 +1,5 @@
 /// Where the program writes.
-#[derive(Clone, Copy, Debug, PartialEq, Eq)]
+#[derive(Clone, Copy, PartialEq)]
 pub enum Port {
     /// The file of labels.
     Labels,

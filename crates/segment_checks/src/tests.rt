@@ -1,7 +1,13 @@
 mod cases;
+mod graphs;
 mod plain_basins;
 mod plain_grid;
 mod plain_merging;
+mod running;
+mod segmenting;
+mod settling;
+mod sheets;
+mod telling;
 
 use cases::{CASES, Case, make_case};
 use chunk_tree::Cutting;
@@ -15,7 +21,7 @@ use std::test::Fail;
 use std::thread::Threads;
 
 /// The sizes of the leaves: the whole volume, single voxels, slabs, and some that do not fit evenly.
-const CHUNKS: [[u32; 3]; 9] = [
+const CHUNKS: &[[u32; 3]] = &[
     [9, 9, 9],
     [1, 1, 1],
     [2, 2, 2],
@@ -56,7 +62,9 @@ fn by_leaves<R: Threads + Sync>(
     case: &Case,
     chunk: [u32; 3],
 ) -> Result<Told, Fail> {
-    let cutting = Cutting::new(case.vol.dims(), chunk)?;
+    let Ok(cutting) = Cutting::new(case.vol.dims(), chunk) else {
+        return Err("no cutting".into());
+    };
     let answer = segment(rt, alloc, &case.vol, &cutting, &case.settings, &Open)?;
     let mut merges = Vec::new(alloc);
     for merge in &answer.merges {
@@ -76,23 +84,28 @@ fn by_leaves<R: Threads + Sync>(
     })
 }
 
+/// Stops the test unless both segmentations are the same.
+fn expect_same<R: Abort>(rt: &R, told: &Told, plain: &Told, seed: u32, chunk: &[u32; 3]) {
+    assert_eq!(rt; told.basins, plain.basins, "seed {seed} cut by {chunk:?}");
+    assert_eq!(rt;
+        told.merges.as_slice(),
+        plain.merges.as_slice(),
+        "seed {seed} cut by {chunk:?}"
+    );
+    assert_eq!(rt;
+        told.labels.as_slice(),
+        plain.labels.as_slice(),
+        "seed {seed} cut by {chunk:?}"
+    );
+}
+
 /// Compares the segmentations of a case by each cutting with the plain one.
 fn compare<R: Abort + Threads + Sync>(rt: &R, alloc: Global, seed: u32) -> Result<(), Fail> {
     let case = make_case(alloc, seed)?;
     let plain = plainly(alloc, &case)?;
     for chunk in CHUNKS {
-        let told = by_leaves(rt, alloc, &case, chunk)?;
-        assert_eq!(rt; told.basins, plain.basins, "seed {seed} cut by {chunk:?}");
-        assert_eq!(rt;
-            told.merges.as_slice(),
-            plain.merges.as_slice(),
-            "seed {seed} cut by {chunk:?}"
-        );
-        assert_eq!(rt;
-            told.labels.as_slice(),
-            plain.labels.as_slice(),
-            "seed {seed} cut by {chunk:?}"
-        );
+        let told = by_leaves(rt, alloc, &case, *chunk)?;
+        expect_same(rt, &told, &plain, seed, chunk);
     }
     Ok(())
 }

@@ -1,5 +1,5 @@
 -- The pieces of a cutting from an ordered parallel map.
-use Rattle.std.proofs.Common.{◌≡◌, ℕ, zero, suc, ◌<◌, List, [], ◌∷◌, Ok, IfOk, length, get_or, map, sym, ◌∙◌, ap, subst, subst₂, arith}
+use Rattle.std.proofs.Common.{◌≡◌, ℕ, ◌<◌, List, Ok, IfOk, length, get_or, map, sym, ◌∙◌, ap, subst, subst₂, arith}
 use Rattle.std.specs.List.{AllZip, range_with_len}
 use Rattle.std.specs.declared.result.Result.{Result}
 use Rattle.std.proofs.lemmas.List.{get_or-map, length-map}
@@ -9,14 +9,7 @@ use Rattle.agglo_model.specs.Cutting.{Chunking, cells_at}
 use Rattle.agglo_model.specs.Grid.{Grid}
 use Rattle.steepest_ascent.specs.CellEnds.{CellEnds}
 use Rattle.face_pointers.specs.Pieces.{AreClimbs, IsLeafClimb}
-
--- what holds of the items of two lists, place by place, at one place
-zip_at : {A B : Type 0} (R : A → B → Type 0) (xs : List A) (ys : List B) (i : ℕ) (d : A) (e : B) → AllZip R xs ys
-    → i < length xs → R (get_or xs i d) (get_or ys i e)
-zip_at R [] ys i d e zip lt = absurd (omega arith)
-zip_at R (x ∷ xs) [] i d e zip lt = absurd zip
-zip_at R (x ∷ xs) (y ∷ ys) zero d e zip lt = zip.0
-zip_at R (x ∷ xs) (y ∷ ys) (suc i) d e zip lt = zip_at R xs ys i d e zip.1 (omega arith)
+use Rattle.chunk_run.proofs.Parts.{zip_at}
 
 -- answers for all leaves in order, each of which is there, are the climbs
 pub climbs_from : {E : Type 0} (g : Grid) (low : ℕ) (t : Chunking) (n : ℕ) (answers : List (Result CellEnds E))

@@ -1,7 +1,6 @@
 -- No two merges of a run have one rank: the edge that is the tie of one lies inside a name afterwards.
 use Rattle.std.proofs.Common.{◌≡◌, ◌≢◌, inl, inr, ℕ, zero, suc, ◌<◌, List, [], ◌∷◌, length, get_or, sym, ap, ◌∙◌, subst, arith}
 use Rattle.std.specs.Prelude.{AllPairs}
-use Rattle.std.proofs.lemmas.Bool.Decides.{nat_tests}
 use Rattle.agglo_model.specs.Axes.{is_edge}
 use Rattle.agglo_model.specs.Grid.{Grid}
 use Rattle.agglo_model.specs.PairOrder.{Threshold}
@@ -9,7 +8,7 @@ use Rattle.agglo_model.specs.Contacts.{lower_label, higher_label, between, InCon
 use Rattle.agglo_model.specs.Greedy.{Merge, IsMutualRun, after_merge}
 use Rattle.agglo_model.proofs.ContactEdges.{InContact-names, InContact-tie}
 use Rattle.agglo_model.proofs.FirstPairs.{names_are}
-use Rattle.agglo_model.proofs.Renames.{new_name, label-renamed}
+use Rattle.agglo_model.proofs.Renames.{new_name, label-renamed, survivor_stays, absorbed_becomes}
 use Rattle.merge_tree.specs.Order.{DifferInRank}
 
 -- both ends of the edge have one label
@@ -19,12 +18,6 @@ IsInner g labels e = lower_label g labels e ≡ higher_label g labels e
 inner_renamed : (g : Grid) (labels : List ℕ) (a b e : ℕ) → b ≢ 0 → IsInner g labels e → IsInner g (renamed labels a b) e
 inner_renamed g labels a b e some inner =
     label-renamed labels a b _ some ∙ ap (new_name a b) inner ∙ sym (label-renamed labels a b _ some)
-
-survivor_stays : (a b : ℕ) → new_name a b a ≡ a
-survivor_stays a b = grind (arith, nat_tests)
-
-absorbed_goes : (a b : ℕ) → new_name a b b ≡ a
-absorbed_goes a b = grind (arith, nat_tests)
 
 -- the tie of a contact lies inside the survivor after the merge, and in no name before it
 module _ (g : Grid) (labels : List ℕ) (a b : ℕ) (touching : InContact g labels a b) where
@@ -37,9 +30,9 @@ module _ (g : Grid) (labels : List ℕ) (a b : ℕ) (touching : InContact g labe
       (InContact-tie g labels a b touching)) [
         | inl (low, high) ↦
             label-renamed labels a b _ pos ∙ ap (new_name a b) low ∙ survivor_stays a b
-            ∙ sym (label-renamed labels a b _ pos ∙ ap (new_name a b) high ∙ absorbed_goes a b)
+            ∙ sym (label-renamed labels a b _ pos ∙ ap (new_name a b) high ∙ absorbed_becomes a b)
         | inr (low, high) ↦
-            label-renamed labels a b _ pos ∙ ap (new_name a b) low ∙ absorbed_goes a b
+            label-renamed labels a b _ pos ∙ ap (new_name a b) low ∙ absorbed_becomes a b
             ∙ sym (label-renamed labels a b _ pos ∙ ap (new_name a b) high ∙ survivor_stays a b)
       ]
 

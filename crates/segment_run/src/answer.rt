@@ -4,7 +4,7 @@ use merge_tree::Merge;
 use seg_base::Labels;
 
 /// The settings of a segmentation.
-#[derive(Clone, Copy, Debug, PartialEq, Eq)]
+#[derive(Clone, Copy)]
 pub struct Settings {
     /// The least affinity that joins voxels to a basin.
     pub low: u8,

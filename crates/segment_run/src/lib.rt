@@ -9,8 +9,6 @@ mod answer;
 mod basin_run;
 mod report;
 mod segmenting;
-#[cfg(test)]
-mod tests;
 
 pub use answer::{Answer, Settings};
 pub use basin_run::basins;

@@ -1,5 +1,5 @@
 -- The ends of all voxels of a cell, once each has its own.
-use Rattle.std.proofs.Common.{◌≡◌, ℕ, ◌<◌, ◌++◌, List, length, take, drop, take_at, sym, subst}
+use Rattle.std.proofs.Common.{◌≡◌, ℕ, ◌<◌, List, length, sym, subst}
 use Rattle.agglo_model.specs.Axes.{voxel_count}
 use Rattle.agglo_model.specs.Boxes.{box_grid, box_index}
 use Rattle.agglo_model.specs.Grid.{Grid}
@@ -30,7 +30,3 @@ all_ends t g low cell ends grid_is low_is cell_is len right = record {
     here : (i : ℕ) → i < length ends
         → IsEndAt (record { grid = g; low = low; cell = cell; steps = t.steps }) i (end_at ends i)
     here i lt = subst (λ (u : Chart). IsEndAt u i (end_at ends i)) (chart_is t g low cell grid_is low_is cell_is) (right i lt)
-
--- a list written over the whole of another
-pub ends_written : (n : ℕ) (ends items : List End) → length ends ≡ n → take n (ends ++ drop (length ends) items) ≡ ends
-ends_written n ends items len = take_at ends (drop (length ends) items) n len

@@ -1,5 +1,5 @@
 -- Labels that are filled in along an ascent.
-use Rattle.std.proofs.Common.{◌≡◌, ◌≢◌, ℕ, ◌+◌, ◌<◌, ◌≤◌, ◌⊎◌, List, length, set, sym, ◌∙◌, ap, subst, inl, inr, arith, get_or-set_same, get_or-set_other, eq-or-lt_of_le, le_trans, take, drop, ◌++◌, take_at, ◌^◌}
+use Rattle.std.proofs.Common.{◌≡◌, ◌≢◌, ℕ, ◌+◌, ◌<◌, ◌≤◌, ◌⊎◌, List, length, set, sym, ◌∙◌, ap, subst, inl, inr, arith, get_or-set_same, get_or-set_other, eq-or-lt_of_le, le_trans, ◌^◌}
 use Rattle.std.proofs.lemmas.Bool.{cases_eq}
 use Rattle.agglo_model.specs.Axes.{voxel_count}
 use Rattle.agglo_model.specs.Grid.{Grid, IsWhole, affinity}
@@ -100,8 +100,3 @@ all_right g low labels len right = are_basins_from g low labels len (λ v lt.
 pub basins_fit : (g : Grid) (low : ℕ) (labels : List ℕ) → IsWhole g → AreBasins g low labels
     → (v : ℕ) → v < length labels → label_of labels v ≤ 2 ^ 28
 basins_fit g low labels whole are v lt = le_trans (label-le g low labels are v) whole.limits.most_voxels
-
--- a list written over the whole of another
-pub written_over : (n : ℕ) (labels items : List ℕ) → length labels ≡ n
-    → take n (labels ++ drop (length labels) items) ≡ labels
-written_over n labels items len = take_at labels (drop (length labels) items) n len

@@ -59,49 +59,38 @@ least_end : (a : Axes) (e v w : ℕ) → lower_end a e < higher_end e → AreEnd
 least_end a e v w lt (inl (l, h)) = omega arith
 least_end a e v w lt (inr (l, h)) = omega arith
 
--- both ends step along the same edge
+turned : (a : Axes) (e v w : ℕ) → AreEnds a e v w → AreEnds a e w v
+turned a e v w (inl p) = inr p
+turned a e v w (inr p) = inl p
+
+-- where both ends step along the same edge, the ascent from each ends there
+ends_both : (g : Grid) (low v w name : ℕ) (s t : Step) → IsBestStep g low v s → s ≢ Stay
+    → LeadsTo g.axes v s w → IsBestStep g low w t → t ≡ reversed s → name ≡ min v w + 1
+    → EndsWith g low v name × EndsWith g low w name
+ends_both g low v w name s t best ne leads far back name_is =
+    let edge = has_edge g.axes v s ne in
+    let e = edge.0 in
+    let here : IsBest g low v e = edge_of_best g low v e s best edge.1 in
+    let there : IsBest g low w e = edge_of_best g low w e t far
+    (ap (edge_at g.axes w) back ∙ reversed_edge g.axes v w s leads ∙ edge.1) in
+    let ends : AreEnds g.axes e v w = leads_across g.axes v w e s leads edge.1 in
+    let least : name ≡ lower_end g.axes e + 1 =
+    name_is ∙ ap (λ x. x + 1) (least_end g.axes e v w (lower_below_higher g.axes e here.strong.edge) ends) in (
+      record { edge = e; far = w; best = here; ends = ends; both = there; name_is = least },
+      record { edge = e; far = v; best = there; ends = turned g.axes e v w ends; both = here; name_is = least },
+    )
+
 pub ends_with : (g : Grid) (low v w name : ℕ) (s t : Step) → IsBestStep g low v s → s ≢ Stay
     → LeadsTo g.axes v s w → IsBestStep g low w t → t ≡ reversed s → name ≡ min v w + 1
     → EndsWith g low v name
 ends_with g low v w name s t best ne leads far back name_is =
-    let edge = has_edge g.axes v s ne in
-    let e = edge.0 in
-    let b : IsBest g low v e = edge_of_best g low v e s best edge.1 in
-    let ends : AreEnds g.axes e v w = leads_across g.axes v w e s leads edge.1 in
-    let back_is : edge_at g.axes w t ≡ Some e =
-    ap (edge_at g.axes w) back ∙ reversed_edge g.axes v w s leads ∙ edge.1 in
-    record {
-      edge = e;
-      far = w;
-      best = b;
-      ends = ends;
-      both = edge_of_best g low w e t far back_is;
-      name_is = name_is ∙ ap (λ x. x + 1) (least_end g.axes e v w (lower_below_higher g.axes e b.strong.edge) ends);
-    }
+    (ends_both g low v w name s t best ne leads far back name_is).0
 
--- and so the ascent from the far end ends there too
 pub ends_there : (g : Grid) (low v w name : ℕ) (s t : Step) → IsBestStep g low v s → s ≢ Stay
     → LeadsTo g.axes v s w → IsBestStep g low w t → t ≡ reversed s → name ≡ min v w + 1
     → EndsWith g low w name
 ends_there g low v w name s t best ne leads far back name_is =
-    let edge = has_edge g.axes v s ne in
-    let e = edge.0 in
-    let b : IsBest g low v e = edge_of_best g low v e s best edge.1 in
-    let ends : AreEnds g.axes e v w = leads_across g.axes v w e s leads edge.1 in
-    let back_is : edge_at g.axes w t ≡ Some e =
-    ap (edge_at g.axes w) back ∙ reversed_edge g.axes v w s leads ∙ edge.1 in
-    record {
-      edge = e;
-      far = v;
-      best = edge_of_best g low w e t far back_is;
-      ends = turned g.axes e v w ends;
-      both = b;
-      name_is = name_is ∙ ap (λ x. x + 1) (least_end g.axes e v w (lower_below_higher g.axes e b.strong.edge) ends);
-    }
-  where
-    turned : (a : Axes) (e v w : ℕ) → AreEnds a e v w → AreEnds a e w v
-    turned a e v w (inl p) = inr p
-    turned a e v w (inr p) = inl p
+    (ends_both g low v w name s t best ne leads far back name_is).1
 
 -- the far end steps along another edge
 pub climbs_to : (g : Grid) (low v w : ℕ) (s t : Step) → IsWithinLimits g.axes → IsBestStep g low v s → s ≢ Stay

@@ -8,7 +8,7 @@ use seg_base::{Cell, Dims};
 use std::marker::Model;
 
 /// What the ascent from a voxel comes to, as far as it goes within a cell.
-#[derive(Clone, Copy, Debug, PartialEq, Eq)]
+#[derive(Clone, Copy)]
 pub enum End {
     /// The voxel has no best edge.
     Background,

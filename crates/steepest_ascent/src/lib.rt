@@ -9,8 +9,6 @@ mod basins;
 mod cell_ascent;
 mod climbing;
 mod ends;
-#[cfg(test)]
-mod tests;
 
 pub use basins::whole_basins;
 pub use climbing::climb;

@@ -7,6 +7,7 @@ use Rattle.std.proofs.Math.Seq.{take-add, take-append-add}
 use Rattle.agglo_model.specs.Axes.{Axes, edge_count}
 use Rattle.agglo_model.specs.Grid.{Grid}
 use Rattle.agglo_model.specs.VolumeFile.{body_flaw, Truncated as FlawTruncated, Trailing as FlawTrailing}
+use Rattle.agglo_model.proofs.VolumesBack.{no_body_flaw}
 use Rattle.seg_io.specs.Desk.{DeskState, taken, Fills, FailsAfterReading}
 use Rattle.seg_io.proofs.Bytes.{some_zeros}
 use Rattle.seg_io.proofs.States.{for_some, taken-none, taken-taken}
@@ -15,7 +16,7 @@ use Rattle.volume_file.specs.declared.fault.VolumeFault.TheVariants.{ShortHeader
 use Rattle.volume_file.specs.Fault.{fault_of}
 use Rattle.volume_file.specs.Reading.{Tells, ReadsBody, FindsBadBody, FailsToReadBody}
 use Rattle.volume_file.specs.Pieces.{ReadsBytes, FindsTooFew, FailsToReadBytes, AppendsPiece, FailsToAppend, FindsMore}
-use Rattle.seg_io.proofs.InputStates.{taken-min, taken-all, fails_later, fails_sooner}
+use Rattle.seg_io.proofs.InputStates.{taken-min, taken-all, fails_later, fails_sooner, left_of}
 
 -- a piece by what it was filled with
 piece_front : (o : Option (List ℕ)) (got : ℕ) (piece before line : List ℕ) → IfSome o (λ bytes. take got piece ≡ take got bytes)
@@ -69,11 +70,6 @@ nothing_read bytes s none =
 -- the input is still open
 pub still_open : (bytes : List ℕ) (old now : DeskState) → HasRead bytes old now → old.has_input ≡ true → now.has_input ≡ true
 still_open bytes old now h open_before = ap (λ (s : DeskState). s.has_input) h.after ∙ open_before
-
--- what is left of the input after n bytes
-left_of : (n : ℕ) (old now : DeskState) (P : List ℕ → Type 0) → now ≡ taken n old → IfSome now.input P
-    → IfSome (option_map (drop n) old.input) P
-left_of n old now P e h = subst (λ (s : DeskState). IfSome s.input P) e h
 
 there_more : (o : Option (List ℕ)) (m count got k : ℕ) → got ≡ count → k ≡ m + count → IfSome o (λ input. m ≤ length input)
     → IfSome (option_map (drop m) o) (λ input. got ≡ min count (length input)) → IfSome o (λ input. k ≤ length input)
@@ -179,10 +175,6 @@ too_long : (a : Axes) (bytes : List ℕ) → edge_count a < length bytes → bod
 unfolding body_flaw
 too_long a bytes long = grind (arith, nat_tests)
 
-right_length : (a : Axes) (bytes : List ℕ) → length bytes ≡ edge_count a → body_flaw a bytes ≡ None
-unfolding body_flaw
-right_length a bytes size = grind (arith, nat_tests)
-
 -- some body is as short, and some is too long
 short_body : (a : Axes) (got : ℕ) → got < edge_count a → Tells (Truncated got) (body_flaw a (replicate got 0))
 short_body a got few =
@@ -268,7 +260,7 @@ exact_length (Some input) n more none there whether =
 sound_body : (o : Option (List ℕ)) (a : Axes) (n : ℕ) → n ≡ edge_count a → IfSome o (λ input. length input ≡ n)
     → IfSome o (λ input. body_flaw a input ≡ None)
 sound_body None a n e size = tt
-sound_body (Some input) a n e size = right_length a input (size ∙ e)
+sound_body (Some input) a n e size = no_body_flaw a input (size ∙ e)
 
 whole_body : (o : Option (List ℕ)) (n : ℕ) (bytes : List ℕ) → IfSome o (λ input. length input ≡ n)
     → IfSome o (λ input. bytes ≡ take n input) → IfSome o (λ input. bytes ≡ input)

@@ -9,7 +9,7 @@ use std::alloc::AllocError;
 use thiserror::Error;
 
 /// Why no volume was read: the first that holds, in this order.
-#[derive(Clone, Copy, Debug, PartialEq, Eq, Error)]
+#[derive(Clone, Copy, Debug, Error)]
 pub enum VolumeFault {
     /// There are so many bytes, fewer than a header has.
     #[error("the header has {0} bytes of 32")]

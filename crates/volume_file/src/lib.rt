@@ -9,8 +9,6 @@ mod fault;
 mod generating;
 mod reading;
 mod sequence;
-#[cfg(test)]
-mod tests;
 mod volume;
 mod writing;
 

@@ -6,7 +6,7 @@ use seg_base::Dims;
 use std::marker::Model;
 
 /// What the header of a volume file says. The version is 1.
-#[derive(Clone, Copy, Debug, PartialEq, Eq)]
+#[derive(Clone, Copy)]
 pub struct Head {
     pub dims: Dims,
     pub version: u8,

@@ -1,5 +1,5 @@
 -- The contacts of two sets of edges that share none, where a set with no edge has no tie.
-use Rattle.std.proofs.Common.{◌≡◌, ◌⊎◌, inl, inr, ℕ, zero, suc, ◌<◌, ◌≤◌, ◌==◌, Bool, false, cond, ◌&&◌, ◌||◌, refl, sym, ap, ◌∙◌, arith}
+use Rattle.std.proofs.Common.{◌≡◌, inl, inr, ℕ, ◌<◌, ◌≤◌, ◌==◌, Bool, false, cond, ◌&&◌, ◌||◌, sym, ap, ◌∙◌, eq-zero-or-pos, arith}
 use Rattle.std.proofs.lemmas.Bool.{cases_Bool, eqb-true, eq-eqb, false≢true}
 use Rattle.agglo_model.specs.Axes.{edge_count}
 use Rattle.agglo_model.specs.Grid.{Grid}
@@ -43,10 +43,6 @@ total_is g p = record {
   tie_low = total-tie-le g p;
 }
 
-pub some_or_none : (n : ℕ) → (n ≡ 0) ⊎ (0 < n)
-some_or_none zero = inl refl
-some_or_none (suc n) = inr (omega arith)
-
 none_left : (n : ℕ) (d f : Contact) → IsTotal n d → IsTotal n f → d.count ≡ 0 → added d f ≡ f
 none_left n d f is_d is_f none =
     let sum = is_d.no_sum none in
@@ -66,12 +62,12 @@ listed-low past d = omega arith
 
 listed-added : (past n : ℕ) (d f : Contact) → IsTotal n d → IsTotal n f
     → listed past (added d f) ≡ added (listed past d) (listed past f)
-listed-added past n d f is_d is_f = elim (some_or_none d.count) [
+listed-added past n d f is_d is_f = elim (eq-zero-or-pos d.count) [
   | inl none ↦
       ap (listed past) (none_left n d f is_d is_f none)
       ∙ sym (none-added past (listed past f) (listed-low past f))
       ∙ ap (λ z. added z (listed past f)) (sym (listed-none past d none))
-  | inr some ↦ elim (some_or_none f.count) [
+  | inr some ↦ elim (eq-zero-or-pos f.count) [
     | inl none ↦
         ap (listed past) (none_right n d f is_d is_f none)
         ∙ sym (added-none past (listed past d) (listed-low past d))
@@ -92,7 +88,7 @@ listed-both past g p q apart =
 
 -- a test that no edge passes
 pub listed-fails : (past : ℕ) (g : Grid) (p : ℕ → Bool) → ((e : ℕ) → p e ≡ false) → listed past (total g p) ≡ no_contact past
-listed-fails past g p fails = elim (some_or_none (total g p).count) [
+listed-fails past g p fails = elim (eq-zero-or-pos (total g p).count) [
   | inl none ↦ listed-none past (total g p) none
   | inr some ↦ absurd (false≢true (sym (fails (total g p).tie) ∙ (total-tie g p some).1))
 ]

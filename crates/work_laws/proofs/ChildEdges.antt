@@ -1,11 +1,12 @@
 -- The edges inside a node's cell: those inside the cell of one child, and those across a face between two.
 use Rattle.std.proofs.Common.{◌≡◌, ◌⊎◌, inl, inr, ℕ, zero, suc, ◌+◌, ◌-◌, ◌<◌, ◌≤◌, ◌==◌, Bool, true, false, not, ◌&&◌, ◌||◌, sym, ◌∙◌, subst, arith}
 use Rattle.std.proofs.lemmas.Bool.{cases_Bool, cases_lt, and_parts, and_from, eqb-true, eq-eqb, false≢true, or_cases, or_left, or_right, not-true, not_from_false}
+use Rattle.std.specs.Cmp.{both_ways}
 use Rattle.agglo_model.specs.Axes.{lower_end, higher_end}
 use Rattle.agglo_model.specs.Cutting.{Chunking, IsChunking, node_count, level_of, node_at, child_count, child}
 use Rattle.agglo_model.specs.Freezing.{is_held, is_inside}
 use Rattle.agglo_model.specs.Joining.{is_crossing}
-use Rattle.work_laws.proofs.Tests.{same_test, not_both}
+use Rattle.agglo_model.proofs.Tests.{not_both}
 use Rattle.work_laws.proofs.Children.{child_of, child_holds, child_node, child_within, one_child}
 
 -- the edge lies inside the cell of one of n children, from number i on
@@ -102,5 +103,5 @@ module _ (c : Chunking) (h : IsChunking c) (m : ℕ) (node : m < node_count c) (
 
   -- the edges inside the node's cell are these two kinds
   pub inside_or_crossing : (e : ℕ) → (inside_from c m 0 (child_count c m) e || is_crossing c m e) ≡ is_inside c m e
-  inside_or_crossing e = same_test (inside_from c m 0 (child_count c m) e || is_crossing c m e) (is_inside c m e)
+  inside_or_crossing e = both_ways (inside_from c m 0 (child_count c m) e || is_crossing c m e) (is_inside c m e)
       (within_node e) (from_node e)

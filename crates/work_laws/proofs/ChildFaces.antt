@@ -2,13 +2,13 @@
 use Rattle.std.proofs.Common.{◌≡◌, ℕ, suc, ◌+◌, ◌*◌, ◌-◌, ◌/◌, ◌<◌, ◌≤◌, ◌==◌, min, Bool, true, ◌&&◌, List, sym, ap, ◌∙◌, subst, arith}
 use Rattle.std.proofs.Math.Nat.{pow-suc}
 use Rattle.std.proofs.lemmas.Bool.{and_parts, and_from, eqb-true, eq-eqb, ltb-true, lt-ltb}
+use Rattle.std.specs.Cmp.{both_ways}
 use Rattle.agglo_model.specs.Axes.{coordinate}
 use Rattle.agglo_model.specs.Cutting.{Chunking, IsChunking, length_on, cell_length, node_count, level_of, cell_place, cell_low, cell_high, is_low_artificial, is_high_artificial, child_count, child}
 use Rattle.agglo_model.specs.Freezing.{is_held, is_part, touches_low, touches_high, touched_faces}
 use Rattle.agglo_model.proofs.Freezing.{held_voxel, part_held, part_name, part_from, some_voxel_from, some_voxel_is}
 use Rattle.agglo_model.proofs.CellBoxes.{cells_are_boxes}
 use Rattle.work_laws.proofs.Children.{child_below, child_level, child_of, child_holds, child_within, child_half_x, child_half_y, child_half_z}
-use Rattle.work_laws.proofs.Tests.{same_test}
 use Rattle.work_laws.proofs.FaceBits.{same_on_axes}
 use Rattle.work_laws.proofs.JoinedFaces.{some_from, one_some, some_one}
 use Rattle.agglo_model.specs.Cutting.{face_bits}
@@ -185,12 +185,12 @@ module _ (c : Chunking) (h : IsChunking c) (m : ℕ) (node : m < node_count c) (
 
   low_alike : (axis : ℕ) → AllOnAxis axis
       → some_from (keeps_low c m labels x) 0 (child_count c m) axis ≡ touches_low c m labels x axis
-  low_alike axis each = same_test (some_from (keeps_low c m labels x) 0 (child_count c m) axis) (touches_low c m labels x axis)
+  low_alike axis each = both_ways (some_from (keeps_low c m labels x) 0 (child_count c m) axis) (touches_low c m labels x axis)
       (low_up axis) (low_down axis each)
 
   high_alike : (axis : ℕ) → AllOnAxis axis
       → some_from (keeps_high c m labels x) 0 (child_count c m) axis ≡ touches_high c m labels x axis
-  high_alike axis each = same_test (some_from (keeps_high c m labels x) 0 (child_count c m) axis) (touches_high c m labels x axis)
+  high_alike axis each = both_ways (some_from (keeps_high c m labels x) 0 (child_count c m) axis) (touches_high c m labels x axis)
       (high_up axis) (high_down axis each)
 
   pub children_faces : face_bits (some_from (keeps_low c m labels x) 0 (child_count c m)) (some_from (keeps_high c m labels x) 0 (child_count c m))

@@ -1,16 +1,17 @@
 -- The children of a node: their cells make up the node's cell, each voxel in one of them.
-use Rattle.std.proofs.Common.{◌≡◌, ℕ, suc, ◌+◌, ◌*◌, ◌-◌, ◌/◌, ◌<◌, ◌≤◌, min, ◌==◌, true, cond, sym, ap, ◌∙◌, subst, arith}
+use Rattle.std.proofs.Common.{◌≡◌, ℕ, suc, ◌+◌, ◌*◌, ◌-◌, ◌/◌, ◌<◌, ◌≤◌, min, ◌==◌, true, cond, sym, ap, ◌∙◌, subst, add_left_cancel, arith}
 use Rattle.std.specs.Int.{div_ceil}
-use Rattle.std.proofs.Math.Nat.{div-div-eq-div-mul, pow-suc, mul-le-mul}
+use Rattle.std.proofs.Math.Nat.{mul-le-mul}
 use Rattle.agglo_model.specs.Axes.{IsWithinLimits, IsPlace, voxel_count, voxel_at, coordinate}
-use Rattle.agglo_model.specs.Cutting.{Chunking, IsChunking, length_on, cell_length, cells_on, level_grid, first_node, node_count, level_of, cell_place, node_at, node_above, children_on, children_grid, child_count, child}
+use Rattle.agglo_model.specs.Cutting.{Chunking, IsChunking, cell_length, cells_on, level_grid, first_node, node_count, level_of, cell_place, node_at, node_above, children_on, children_grid, child_count, child}
 use Rattle.agglo_model.specs.Freezing.{is_held}
 use Rattle.agglo_model.proofs.Places.{voxel_at-lt, place-voxel, voxel_at-place, coordinate-voxel_at_x, coordinate-voxel_at_y, coordinate-voxel_at_z}
 use Rattle.agglo_model.proofs.Levels.{IsOnLevel, on_level, level_of-is, cells_on-suc}
 use Rattle.agglo_model.proofs.NodeCells.{node_place, node-on_level, on_level-lt, voxel_cell, level_of-root}
 use Rattle.agglo_model.proofs.Freezing.{held_voxel, held_node, held_from}
 use Rattle.agglo_model.proofs.CellBoxes.{node-coordinates}
-use Rattle.agglo_model.proofs.NodeNesting.{IsParent, parent_greater, parent_holds}
+use Rattle.agglo_model.proofs.NodeNesting.{IsParent, parent_greater, parent_holds, half_of_cell}
+use Rattle.agglo_model.proofs.Cases.{twice_lt}
 
 -- a node with children is no leaf
 some_children : (k n : ℕ) → 0 < cond (k == 0) 0 n → (0 < k) × (0 < n)
@@ -18,9 +19,6 @@ some_children k n some = grind arith
 
 children_of : (k n : ℕ) → 0 < k → cond (k == 0) 0 n ≡ n
 children_of k n some = grind arith
-
-double-lt : (q n : ℕ) → q < div_ceil n 2 → 2 * q < n
-double-lt q n below = omega arith
 
 child-lt : (q x n : ℕ) → x < min 2 (n - 2 * q) → 2 * q + x < n
 child-lt q x n below = omega arith
@@ -34,17 +32,6 @@ half_rest p q n half below = (omega arith, omega arith)
 few_children : (x y z : ℕ) → x ≤ 2 → y ≤ 2 → z ≤ 2 → x * y * z ≤ 268435456
 few_children x y z few_x few_y few_z = omega (arith, mul-le-mul (mul-le-mul few_x few_y) few_z)
 
--- cells of the next level are twice as long
-half_of_cell : (c : Chunking) (k axis x : ℕ) → x / cell_length c (suc k) axis ≡ x / cell_length c k axis / 2
-half_of_cell c k axis x =
-    ap (λ l. x / l) twice ∙ sym (div-div-eq-div-mul x (cell_length c k axis) 2)
-  where
-    twice : cell_length c (suc k) axis ≡ cell_length c k axis * 2
-    twice = ap (λ p. length_on c.leaf axis * p) (pow-suc 2 k) ∙ omega arith
-
-same_rest : (n x y : ℕ) → n + x ≡ n + y → x ≡ y
-same_rest n x y same = omega arith
-
 pub is_inner : (c : Chunking) (m : ℕ) → 0 < child_count c m → 0 < level_of c m
 is_inner c m some = (some_children (level_of c m) (voxel_count (children_grid c m)) some).0
 
@@ -57,7 +44,7 @@ module _ (c : Chunking) (h : IsChunking c) (m : ℕ) (node : m < node_count c) (
   twice_place axis below =
       let cells : cells_on c (level_of c m) axis ≡ div_ceil (cells_on c (level_of c m - 1) axis) 2 =
       ap (λ k. cells_on c k axis) (sym up) ∙ cells_on-suc c h (level_of c m - 1) axis in
-      double-lt (cell_place c m axis) (cells_on c (level_of c m - 1) axis)
+      twice_lt (cell_place c m axis) (cells_on c (level_of c m - 1) axis)
       (subst (λ n. cell_place c m axis < n) cells below)
 
   children_limits : IsWithinLimits (children_grid c m)
@@ -240,11 +227,11 @@ module _ (c : Chunking) (h : IsChunking c) (m : ℕ) (node : m < node_count c) (
       let y = sym (child_place_y i below_i) ∙ ap (λ k. cell_place c k 1) same ∙ child_place_y j below_j in
       let z = sym (child_place_z i below_i) ∙ ap (λ k. cell_place c k 2) same ∙ child_place_z j below_j in
       let dx : coordinate (children_grid c m) i 0 ≡ coordinate (children_grid c m) j 0 =
-      same_rest (2 * cell_place c m 0) (coordinate (children_grid c m) i 0) (coordinate (children_grid c m) j 0) x in
+      add_left_cancel (2 * cell_place c m 0) x in
       let dy : coordinate (children_grid c m) i 1 ≡ coordinate (children_grid c m) j 1 =
-      same_rest (2 * cell_place c m 1) (coordinate (children_grid c m) i 1) (coordinate (children_grid c m) j 1) y in
+      add_left_cancel (2 * cell_place c m 1) y in
       let dz : coordinate (children_grid c m) i 2 ≡ coordinate (children_grid c m) j 2 =
-      same_rest (2 * cell_place c m 2) (coordinate (children_grid c m) i 2) (coordinate (children_grid c m) j 2) z in
+      add_left_cancel (2 * cell_place c m 2) z in
       sym (voxel_at-place (children_grid c m) i)
       ∙ (λ k. voxel_at (children_grid c m) (dx k) (dy k) (dz k))
       ∙ voxel_at-place (children_grid c m) j

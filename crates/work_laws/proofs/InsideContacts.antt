@@ -1,5 +1,6 @@
 -- Contacts by the edges inside the cell of a node: of free names, after a merge, and in a graph of names.
-use Rattle.std.proofs.Common.{◌≡◌, ◌≢◌, ◌⊎◌, inl, inr, ℕ, ◌<◌, Bool, true, false, ◌&&◌, ◌||◌, List, refl, sym, ap, ◌∙◌, subst, arith}
+use Rattle.std.proofs.Common.{◌≡◌, ◌≢◌, ◌⊎◌, inl, inr, ℕ, ◌<◌, Bool, true, false, ◌&&◌, List, refl, sym, ap, ◌∙◌, subst, eq-zero-or-pos, arith}
+use Rattle.std.proofs.Math.Bool.{and-or_distrib_right}
 use mathlib.Core.Path.{fun_ext}
 use Rattle.agglo_model.specs.Axes.{edge_count}
 use Rattle.agglo_model.specs.Grid.{Grid}
@@ -14,6 +15,7 @@ use Rattle.agglo_model.proofs.GraphContacts.{same_contact}
 use Rattle.agglo_model.proofs.GraphMerges.{contact_in-swap}
 use Rattle.agglo_model.proofs.GraphEdges.{edge_contact-low, edge_of_contact}
 use Rattle.agglo_model.proofs.GraphFirsts.{contact_in-none}
+use Rattle.agglo_model.proofs.Cases.{apart_cases}
 
 -- where all edges that join two names are inside, their contact is that of the whole volume
 pub inside-all : (g : Grid) (c : Chunking) (m : ℕ) (labels : List ℕ) (x y : ℕ)
@@ -23,9 +25,6 @@ inside-all g c m labels x y all = ap (total g) (fun_ext (λ e. same (joins g lab
     same : (p q : Bool) → (p ≡ true → q ≡ true) → (p && q) ≡ p
     same true q pass = pass refl
     same false q pass = refl
-
-or_inside : (p q i : Bool) → ((p || q) && i) ≡ ((p && i) || (q && i))
-or_inside p q i = grind arith
 
 apart_inside : (p q i : Bool) → (p && q) ≡ false → ((p && i) && (q && i)) ≡ false
 apart_inside p q i apart = grind arith
@@ -37,7 +36,7 @@ pub inside-third : (g : Grid) (c : Chunking) (m : ℕ) (labels : List ℕ) (a b 
 inside-third g c m labels a b z ab pa pb za zb =
     ap (total g) (fun_ext (λ e.
     ap (λ t. t && is_inside c m e) (joins-third g labels a b z e ab pa pb za zb)
-    ∙ or_inside (joins g labels a z e) (joins g labels b z e) (is_inside c m e)))
+    ∙ and-or_distrib_right (joins g labels a z e) (joins g labels b z e) (is_inside c m e)))
     ∙ total-both g (λ e. joins g labels a z e && is_inside c m e) (λ e. joins g labels b z e && is_inside c m e)
     (λ e. apart_inside (joins g labels a z e) (joins g labels b z e) (is_inside c m e) (joins-apart g labels a b z e ab za zb))
 
@@ -50,33 +49,27 @@ pub inside-swap : (g : Grid) (c : Chunking) (m : ℕ) (labels : List ℕ) (x y :
     → between_inside g c m labels x y ≡ between_inside g c m labels y x
 inside-swap g c m labels x y = ap (total g) (fun_ext (λ e. ap (λ t. t && is_inside c m e) (joins-swap g labels x y e)))
 
-count_cases : (n : ℕ) → (0 < n) ⊎ (n ≡ 0)
-count_cases n = grind arith
-
-order_cases : (x y : ℕ) → x ≢ y → (x < y) ⊎ (y < x)
-order_cases x y xy = grind arith
-
 -- in a graph of names the contact of two of them is that inside the cell
 module _ (Keeps : ℕ → Type 0) (g : Grid) (c : Chunking) (m : ℕ) (labels : List ℕ) (graph : RegionGraph)
     (names : IsGraphOfNames Keeps g c m labels graph) where
   ordered_contact : (x y : ℕ) → Keeps x → Keeps y → x < y
       → contact_in (edge_count g.axes) graph.edges x y ≡ between_inside g c m labels x y
-  ordered_contact x y kx ky xy = elim (count_cases (between_inside g c m labels x y).count) [
-    | inl some ↦
+  ordered_contact x y kx ky xy = elim (eq-zero-or-pos (between_inside g c m labels x y).count) [
+    | inr some ↦
         let e : GraphEdge = record { a = x; b = y; contact = between_inside g c m labels x y } in
         edge_contact-low graph names.graph_is (edge_count g.axes) e ((names.edges e).1 (xy, kx, ky, some, refl))
         (total-tie-le g (λ e. joins g labels x y e && is_inside c m e))
-    | inr none ↦
+    | inl none ↦
         let nothing = total-none g (λ e. joins g labels x y e && is_inside c m e) none in
-        let no_edge : (contact_in (edge_count g.axes) graph.edges x y).count ≡ 0 = zero (count_cases (contact_in (edge_count g.axes) graph.edges x y).count) none in
+        let no_edge : (contact_in (edge_count g.axes) graph.edges x y).count ≡ 0 = zero (eq-zero-or-pos (contact_in (edge_count g.axes) graph.edges x y).count) none in
         contact_in-none graph names.graph_is (edge_count g.axes) x y no_edge
         ∙ same_contact (no_contact (edge_count g.axes)) (between_inside g c m labels x y) (sym nothing.0) (sym none) (sym nothing.1)
   ]
     where
-      zero : (0 < (contact_in (edge_count g.axes) graph.edges x y).count) ⊎ ((contact_in (edge_count g.axes) graph.edges x y).count ≡ 0)
+      zero : ((contact_in (edge_count g.axes) graph.edges x y).count ≡ 0) ⊎ (0 < (contact_in (edge_count g.axes) graph.edges x y).count)
           → (between_inside g c m labels x y).count ≡ 0 → (contact_in (edge_count g.axes) graph.edges x y).count ≡ 0
-      zero (inr same) none = same
-      zero (inl some) none =
+      zero (inl same) none = same
+      zero (inr some) none =
           let found = edge_of_contact graph names.graph_is (edge_count g.axes) x y xy some in
           let of_names = (names.edges found.0).0 found.1 in
           let there : 0 < (between_inside g c m labels x y).count =
@@ -86,7 +79,7 @@ module _ (Keeps : ℕ → Type 0) (g : Grid) (c : Chunking) (m : ℕ) (labels : 
 
   pub names_contact : (x y : ℕ) → Keeps x → Keeps y → x ≢ y
       → contact_in (edge_count g.axes) graph.edges x y ≡ between_inside g c m labels x y
-  names_contact x y kx ky xy = elim (order_cases x y xy) [
+  names_contact x y kx ky xy = elim (apart_cases x y xy) [
     | inl less ↦ ordered_contact x y kx ky less
     | inr more ↦
         contact_in-swap (edge_count g.axes) x y graph.edges ∙ ordered_contact y x ky kx more ∙ inside-swap g c m labels y x

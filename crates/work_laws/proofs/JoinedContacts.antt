@@ -1,5 +1,5 @@
 -- The contacts of a joined graph are those before the node's work, inside its cell.
-use Rattle.std.proofs.Common.{◌≡◌, ◌≢◌, inl, inr, ℕ, ◌+◌, ◌<◌, Bool, true, false, cond, ◌&&◌, IsTrue, List, length, refl, sym, ap, ◌∙◌, subst, arith}
+use Rattle.std.proofs.Common.{◌≡◌, ◌≢◌, inl, inr, ℕ, ◌+◌, ◌<◌, Bool, true, false, cond, ◌&&◌, IsTrue, List, length, refl, sym, ap, ◌∙◌, subst, eq-zero-or-pos, arith}
 use Rattle.std.specs.Prelude.{Contains}
 use mathlib.Core.Path.{fun_ext}
 use Rattle.agglo_model.specs.Grid.{Grid}
@@ -14,7 +14,7 @@ use Rattle.agglo_model.specs.Joining.{IsJoined, is_named, kept_regions, kept_edg
 use Rattle.agglo_model.specs.JoiningLaws.{AreKids}
 use Rattle.agglo_model.proofs.GraphContacts.{same_contact}
 use Rattle.agglo_model.proofs.GraphEdges.{edge_contact, edge_there, contact_by_pasts}
-use Rattle.work_laws.proofs.AddedContacts.{listed, listed-none, listed-some, some_or_none}
+use Rattle.work_laws.proofs.AddedContacts.{listed, listed-none, listed-some}
 use Rattle.work_laws.proofs.ChildEdges.{inside_from, crossing_apart, inside_or_crossing}
 use Rattle.work_laws.proofs.KidContacts.{graph_contact, kids_contact, listed-split}
 use Rattle.work_laws.proofs.CrossingLabels.{children_contact}
@@ -31,7 +31,7 @@ both_named true false d f one other = cc
 both_named false b d f one other = cc
 
 count_of : (past : ℕ) (d f : Contact) → listed past d ≡ added f (no_contact past) → 0 < f.count → 0 < d.count
-count_of past d f same some = elim (some_or_none d.count) [
+count_of past d f same some = elim (eq-zero-or-pos d.count) [
   | inr more ↦ more
   | inl none ↦
       let counts = ap (λ z. z.count) (sym (listed-none past d none) ∙ same) in

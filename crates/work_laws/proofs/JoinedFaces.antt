@@ -10,7 +10,7 @@ use Rattle.agglo_model.specs.Cutting.{Chunking, face_bits, child}
 use Rattle.agglo_model.specs.RegionGraph.{Region, RegionGraph, residue_of}
 use Rattle.agglo_model.specs.Joining.{is_named, kept_region, kept_regions}
 use Rattle.agglo_model.proofs.Members.{contains_head, contains_tail}
-use Rattle.work_laws.proofs.Tests.{or_again}
+use Rattle.agglo_model.proofs.Tests.{or_again}
 use Rattle.work_laws.proofs.FaceBits.{or_faces, same_bits}
 
 -- the faces of the regions of the name x, with those that are there already

@@ -15,13 +15,13 @@ use Rattle.agglo_model.specs.Joining.{IsJoined, is_named, kept_faces, kept_regio
 use Rattle.agglo_model.specs.JoiningLaws.{AreKids, StartsNode, JoinedStart}
 use Rattle.agglo_model.proofs.Members.{Contains-map, Contains-unmap}
 use Rattle.agglo_model.proofs.Freezing.{occurs_at, some_voxel_is}
+use Rattle.agglo_model.proofs.Tests.{with_implied}
+use Rattle.agglo_model.proofs.RegionLists.{region_named}
 use Rattle.work_laws.proofs.Children.{is_inner}
-use Rattle.work_laws.proofs.Tests.{with_implied}
 use Rattle.work_laws.proofs.ChildFaces.{keeps_low, keeps_high, children_faces}
 use Rattle.work_laws.proofs.FaceBits.{and_faces, same_bits}
 use Rattle.work_laws.proofs.JoinedContacts.{edge_inside, inside_edge}
 use Rattle.work_laws.proofs.JoinedFaces.{gathered, gather_alike, gather_all, some_from}
-use Rattle.work_laws.proofs.KeptRegions.{region_named}
 use Rattle.work_laws.proofs.KidNames.{kid_graph, named_by, named_where, passed_region, occurs_up, frozen_named, others_stuck}
 
 or_alike : (l a b : Bool) → a ≡ b → (l || a) ≡ (l || b)

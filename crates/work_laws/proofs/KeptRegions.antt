@@ -1,12 +1,10 @@
 -- The kept regions of a node's children are those of the single residues.
-use Rattle.std.proofs.Common.{◌≡◌, inl, inr, ℕ, zero, suc, ◌+◌, ◌<◌, ◌==◌, true, List, [], ◌∷◌, length, ap, ◌∙◌, subst, arith}
+use Rattle.std.proofs.Common.{◌≡◌, inl, inr, ℕ, zero, suc, ◌+◌, ◌<◌, List, [], ◌∷◌, length, ap, ◌∙◌, subst, arith}
 use Rattle.std.specs.Prelude.{Contains, map}
-use Rattle.std.proofs.lemmas.Bool.{eqb-true, eq-eqb}
 use Rattle.std.proofs.lemmas.List.Elements.{Contains-append_left, Contains-append_right, Contains-append_cases}
-use Rattle.std.proofs.lemmas.List.Folds.{Any-from_list_any, list_any_at}
 use Rattle.agglo_model.specs.Cutting.{Chunking, child}
 use Rattle.agglo_model.specs.RegionGraph.{Region, RegionGraph, residue_of}
-use Rattle.agglo_model.specs.Joining.{is_named, kept_region, kept_regions}
+use Rattle.agglo_model.specs.Joining.{kept_region, kept_regions}
 use Rattle.agglo_model.proofs.Members.{Contains-map, Contains-unmap, contains_none}
 
 -- a region of the residue of one of the children from number i on becomes this one
@@ -58,16 +56,3 @@ from_kept c m i (kid ∷ kids) (suc k) r below inside =
     subst (λ n. Contains (kept_regions c m i (kid ∷ kids)) (kept_region c m (child c m n) r)) next
     (Contains-append_right (map (kept_region c m (child c m i)) kid.regions) (kept_regions c m (i + 1) kids)
     (kept_region c m (child c m (i + 1 + k)) r) (from_kept c m (i + 1) kids k r (omega arith) inside))
-
--- a list of regions has a name exactly where a region of it has it
-pub named_region : (regions : List Region) (x : ℕ) → is_named regions x ≡ true
-    → (r : Region) × Contains regions r × (r.name ≡ x)
-named_region regions x named =
-    let found = Any-from_list_any (λ (r : Region). r.name == x) regions named in
-    (found.1, (found.0, found.2, found.3), eqb-true found.1.name x found.4)
-
-pub region_named : (regions : List Region) (x : ℕ) (r : Region) → Contains regions r → r.name ≡ x
-    → is_named regions x ≡ true
-region_named regions x r (k, below, same) name =
-    list_any_at (λ (s : Region). s.name == x) regions k r below
-    (ap (λ (s : Region). s.name == x) same ∙ eq-eqb r.name x name)

@@ -1,5 +1,5 @@
 -- The contacts of two names in the residues of a node's children are those inside the children's cells.
-use Rattle.std.proofs.Common.{◌≡◌, ◌≢◌, ◌⊎◌, inl, inr, ℕ, suc, ◌+◌, ◌<◌, ◌≤◌, Bool, false, ◌&&◌, ◌||◌, List, [], ◌∷◌, length, refl, sym, ap, ◌∙◌, subst, arith}
+use Rattle.std.proofs.Common.{◌≡◌, ◌≢◌, inl, inr, ℕ, suc, ◌+◌, ◌<◌, ◌≤◌, Bool, false, ◌&&◌, ◌||◌, List, [], ◌∷◌, length, refl, sym, ap, ◌∙◌, subst, eq-zero-or-pos, arith}
 use Rattle.std.specs.Prelude.{Contains}
 use Rattle.std.proofs.Math.Bool.{and-false, and-or_distrib_left}
 use Rattle.std.proofs.lemmas.Bool.{cases_Bool, cases_lt}
@@ -14,14 +14,11 @@ use Rattle.agglo_model.specs.Joining.{kept_edges}
 use Rattle.agglo_model.proofs.GraphContacts.{contact_in-is, contact_in-append, joint-none}
 use Rattle.agglo_model.proofs.GraphEdges.{edge_contact, between_names}
 use Rattle.agglo_model.proofs.GraphMerges.{contact_in-swap}
+use Rattle.agglo_model.proofs.Tests.{both_apart}
+use Rattle.agglo_model.proofs.Cases.{ordered_names}
 use Rattle.work_laws.proofs.InsideContacts.{inside-swap}
-use Rattle.work_laws.proofs.Tests.{both_apart}
-use Rattle.work_laws.proofs.AddedContacts.{listed, listed-none, listed-some, listed-both, listed-fails, some_or_none}
+use Rattle.work_laws.proofs.AddedContacts.{listed, listed-none, listed-some, listed-both, listed-fails}
 use Rattle.work_laws.proofs.ChildEdges.{inside_from, children_apart}
-
-ordered_names : (x y a b : ℕ) → x < y → a < b → ((a ≡ x) × (b ≡ y)) ⊎ ((a ≡ y) × (b ≡ x)) → (a ≡ x) × (b ≡ y)
-ordered_names x y a b xy ab (inl names) = names
-ordered_names x y a b xy ab (inr (p, q)) = absurd (omega arith)
 
 -- ---- one graph of names
 
@@ -53,7 +50,7 @@ module _ (Keeps : ℕ → Type 0) (g : Grid) (c : Chunking) (m : ℕ) (labels : 
 
   ordered_contact : (x y : ℕ) → x < y → KeepsBoth Keeps g c m labels x y
       → contact_in past graph.edges x y ≡ listed past (between_inside g c m labels x y)
-  ordered_contact x y order keeps = elim (some_or_none (between_inside g c m labels x y).count) [
+  ordered_contact x y order keeps = elim (eq-zero-or-pos (between_inside g c m labels x y).count) [
     | inr some ↦ some_contact x y order (keeps some) some
     | inl none ↦
         contact_in-is past x y graph.edges

@@ -1,7 +1,7 @@
 -- The names that the children of a node pass on, by the labels before the node's work.
-use Rattle.std.proofs.Common.{◌≡◌, ◌≢◌, ◌⊎◌, inl, inr, ℕ, zero, suc, ◌+◌, ◌<◌, Bool, true, ◌&&◌, IsTrue, List, length, refl, sym, ap, ◌∙◌, subst, arith}
+use Rattle.std.proofs.Common.{◌≡◌, ◌≢◌, ◌⊎◌, inl, inr, ℕ, ◌+◌, ◌<◌, Bool, true, ◌&&◌, IsTrue, List, length, refl, sym, ap, ◌∙◌, subst, arith}
 use Rattle.std.specs.Prelude.{Contains}
-use Rattle.std.proofs.lemmas.Bool.{and_parts}
+use Rattle.std.proofs.lemmas.Bool.{and_parts, cases_eq}
 use Rattle.std.proofs.lemmas.Bool.Decides.{nat_tests}
 use Rattle.agglo_model.specs.Axes.{is_edge, lower_end, higher_end}
 use Rattle.agglo_model.specs.Basins.{label_of}
@@ -23,20 +23,17 @@ use Rattle.agglo_model.proofs.NestedFaces.{inner_face}
 use Rattle.agglo_model.proofs.StuckNames.{IsStuck, stuck_from_first, steps_keep_stuck}
 use Rattle.agglo_model.proofs.Totals.{total-tie}
 use Rattle.agglo_model.proofs.Works.{works_keep, connected_before}
+use Rattle.agglo_model.proofs.RegionLists.{named_region, region_named}
 use Rattle.work_laws.proofs.SameCells.{AgreeIn, same_occurs, frozen_alike, same_graph}
 use Rattle.work_laws.proofs.Children.{child_below, child_level, child_before, child_of, child_holds, child_node, child_within, one_child}
 use Rattle.work_laws.proofs.CrossingLabels.{child_waits}
-use Rattle.work_laws.proofs.KeptRegions.{kept_from, from_kept, named_region, region_named}
+use Rattle.work_laws.proofs.KeptRegions.{kept_from, from_kept}
 use Rattle.work_laws.proofs.KidContacts.{KeepsBoth}
 
 -- the ends of an edge that joins two names have them
 end_names : (i k : Bool) (p q x y : ℕ) → (((i && differ p q) && are p q x y) && k) ≡ true
     → (k ≡ true) × (((p ≡ x) × (q ≡ y)) ⊎ ((p ≡ y) × (q ≡ x)))
 end_names i k p q x y pass = grind (arith, nat_tests)
-
-zero_or_not : (n : ℕ) → (n ≡ 0) ⊎ (n ≢ 0)
-zero_or_not zero = inl refl
-zero_or_not (suc n) = inr (λ same. omega arith)
 
 module _ (g : Grid) (t : Threshold) (c : Chunking) (labels : List ℕ) (works : List (List Merge))
     (on : AreWorksOn g t c labels works) (m : ℕ) (worked : length works ≡ m) (node : m < node_count c)
@@ -158,7 +155,7 @@ module _ (g : Grid) (t : Threshold) (c : Chunking) (labels : List ℕ) (works : 
   passed_where x j named below occurs =
       let l = labels_before labels works m in
       let found = named_by x named in
-      elim (zero_or_not (touched_faces c (child c m j) l x)) [
+      elim (cases_eq (touched_faces c (child c m j) l x) 0) [
         | inr some ↦ frozen_passed x j below found.1.name ((frozen_touches c (child c m j) l x).1 some)
         | inl none ↦
             let free : IsFree c (child c m j) l x = record {

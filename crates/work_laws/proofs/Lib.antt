@@ -1,4 +1,3 @@
-pub mod Tests
 pub mod SameCells
 pub mod LeafGraphs
 pub mod Children

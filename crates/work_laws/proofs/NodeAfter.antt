@@ -1,7 +1,7 @@
 -- The graph after a merge is that of the node's names after it.
 use Rattle.std.proofs.Common.{◌≡◌, ◌≢◌, ◌⊎◌, inl, inr, ℕ, ◌<◌, Bool, ◌&&◌, List, sym, ap, ◌∙◌, subst, arith}
 use Rattle.std.specs.Prelude.{◌↔◌, Contains, IsTrue, map, bit_or}
-use Rattle.std.proofs.lemmas.Bool.{and_parts}
+use Rattle.std.proofs.lemmas.Bool.{and_parts, cases_eq}
 use Rattle.agglo_model.specs.Axes.{edge_count}
 use Rattle.agglo_model.specs.Grid.{Grid}
 use Rattle.agglo_model.specs.PairOrder.{Contact, Threshold, added}
@@ -20,26 +20,20 @@ use Rattle.agglo_model.proofs.StuckNames.{stuck_after}
 use Rattle.agglo_model.proofs.ConnectedMerges.{merges_keep_connected}
 use Rattle.agglo_model.proofs.Freezing.{frozen_touches}
 use Rattle.agglo_model.proofs.GraphContacts.{same_contact}
-use Rattle.agglo_model.proofs.GraphMerges.{contact_in-swap, merged-third, merged-gone, merged-others, name_cases}
-use Rattle.agglo_model.proofs.GraphEdges.{edge_contact, edge_of_contact}
-use Rattle.work_laws.proofs.RenamedJoins.{same_edges}
+use Rattle.agglo_model.proofs.GraphMerges.{contact_in-swap, merged-third, merged-gone, merged-others}
+use Rattle.agglo_model.proofs.GraphEdges.{edge_contact, edge_of_contact, same_edges}
+use Rattle.agglo_model.proofs.Cases.{name_cases, zero_from_not_ne}
 use Rattle.work_laws.proofs.InsideContacts.{inside-swap, inside-third, inside-others, names_contact}
 use Rattle.work_laws.proofs.RenamedNames.{occurs-renamed, touched-renamed, absorbed_gone, survivor_occurs, frozen_before, frozen_other}
 use Rattle.work_laws.proofs.NodeSteps.{node_pair, region_name}
 
-not_not_zero : (n : ℕ) → ((n ≢ 0) → ⊥) → n ≡ 0
-not_not_zero n h = grind arith
-
 not_some_zero : (n : ℕ) → ((0 < n) → ⊥) → n ≡ 0
 not_some_zero n h = grind arith
-
-same_or_apart : (x y : ℕ) → (x ≡ y) ⊎ (x ≢ y)
-same_or_apart x y = grind arith
 
 -- a name that isn't frozen touches no artificial face
 unfrozen_faces : (c : Chunking) (n : ℕ) (labels : List ℕ) (x : ℕ) → ¬ (IsFrozen c n labels x) → touched_faces c n labels x ≡ 0
 unfrozen_faces c n labels x unfrozen =
-    not_not_zero (touched_faces c n labels x) (λ some. unfrozen ((frozen_touches c n labels x).1 some))
+    zero_from_not_ne (touched_faces c n labels x) (λ some. unfrozen ((frozen_touches c n labels x).1 some))
 
 -- the absorbed name has no contact inside
 inside-gone : (g : Grid) (c : Chunking) (n : ℕ) (labels : List ℕ) (a b y : ℕ) → a ≢ b → b ≢ 0
@@ -122,7 +116,7 @@ module _ (keeps : ℕ → Bool) (g : Grid) (t : Threshold) (c : Chunking) (n : �
       }
 
   regions_after : (r : Region) → Contains next.regions r ↔ IsNameAfter r
-  regions_after r = elim (same_or_apart r.name step.survivor) [
+  regions_after r = elim (cases_eq r.name step.survivor) [
     | inl at_s ↦
         subst (λ x. Contains next.regions (record { name = x; faces = r.faces }) ↔ IsNameAfter (record { name = x; faces = r.faces })) (sym at_s) (
           λ inside. survivor_forth r.faces ((after.survivor r.faces).0 inside),

@@ -1,7 +1,7 @@
 -- Reciprocal edges of the graph of a node's names are the reciprocal pairs of the node.
 use Rattle.std.proofs.Common.{◌≡◌, ◌≢◌, ◌⊎◌, inl, inr, ℕ, ◌<◌, Bool, true, false, List, refl, sym, ap, ◌∙◌, subst, arith}
 use Rattle.std.specs.Prelude.{Contains, IsTrue, bit_and}
-use Rattle.std.proofs.lemmas.Bool.{false≢true, and_parts, cases_Bool}
+use Rattle.std.proofs.lemmas.Bool.{false≢true, and_parts, cases_Bool, cases_eq}
 use Rattle.agglo_model.specs.Axes.{is_edge, lower_end, higher_end}
 use Rattle.agglo_model.specs.Basins.{label_of}
 use Rattle.agglo_model.specs.Grid.{Grid}
@@ -22,18 +22,7 @@ use Rattle.agglo_model.proofs.FreeNames.{free_names_lie_inside}
 use Rattle.work_laws.proofs.FaceSets.{frozen_by_faces}
 use Rattle.work_laws.proofs.InsideContacts.{inside-all, inside-swap}
 use Rattle.agglo_model.proofs.GraphFirsts.{IsFirstAt}
-
-not_not_zero : (n : ℕ) → ((n ≢ 0) → ⊥) → n ≡ 0
-not_not_zero n h = grind arith
-
-order_cases : (x y : ℕ) → x ≢ y → (x < y) ⊎ (y < x)
-order_cases x y xy = grind arith
-
-same_or_apart : (x y : ℕ) → (x ≡ y) ⊎ (x ≢ y)
-same_or_apart x y = grind arith
-
-not_pair : (x y z : ℕ) → x ≢ y → z ≢ y → ((x ≡ x) × (z ≡ y)) ⊎ ((x ≡ y) × (z ≡ x)) → ⊥
-not_pair x y z xy zy same = grind arith
+use Rattle.agglo_model.proofs.Cases.{apart_cases, zero_from_not_ne, not_pair}
 
 module _ (keeps : ℕ → Bool) (g : Grid) (t : Threshold) (c : Chunking) (m : ℕ) (labels : List ℕ) (graph : RegionGraph)
     (node : IsNodeGraph (λ x. IsTrue (keeps x)) g t c m labels graph) where
@@ -56,7 +45,7 @@ module _ (keeps : ℕ → Bool) (g : Grid) (t : Threshold) (c : Chunking) (m : �
   free_region x free r inside name =
       let known = (node.graph_is.regions r).0 inside in
       let zero : bit_and (touched_faces c m labels x) (artificial_faces c m) ≡ 0 =
-      not_not_zero (bit_and (touched_faces c m labels x) (artificial_faces c m))
+      zero_from_not_ne (bit_and (touched_faces c m labels x) (artificial_faces c m))
       (λ some. free.unfrozen ((frozen_by_faces c m labels x).1 some)) in
       ap (λ n. bit_and n (artificial_faces c m)) (known.3 ∙ ap (touched_faces c m labels) name) ∙ zero
 
@@ -131,7 +120,7 @@ module _ (keeps : ℕ → Bool) (g : Grid) (t : Threshold) (c : Chunking) (m : �
           (subst (λ d. Before d (between g labels x y)) (sym (turn ∙ free_contact x z some free)) before)
 
       by_kept : (keeps z ≡ true) ⊎ (keeps z ≡ false) → ¬ (Before (between g labels x z) (between g labels x y))
-      by_kept (inl kz) before = in_graph kz (order_cases x z names.2) before
+      by_kept (inl kz) before = in_graph kz (apart_cases x z names.2) before
       by_kept (inr out) before =
           node.others_stuck z x (let pos = names.1 in λ e. omega arith) occurs (λ kz. false≢true (sym out ∙ kz))
           (InContact-swap g labels x z meets)
@@ -189,7 +178,7 @@ module _ (keeps : ℕ → Bool) (g : Grid) (t : Threshold) (c : Chunking) (m : �
       contact_b same b = same ∙ (λ i. between_inside g c m labels f.a (b i)) ∙ inside-swap g c m labels f.a x ∙ free_contact x f.a some free
 
       late : (z : ℕ) → f.contact ≡ between g labels x z → 0 < f.contact.count → Before f.contact (between g labels x y) → ⊥
-      late z same some before = elim (same_or_apart z y) [
+      late z same some before = elim (cases_eq z y) [
         | inl equal ↦ before_irrefl (between g labels x y) (subst (λ d. Before d (between g labels x y)) (same ∙ ap (between g labels x) equal) before)
         | inr apart ↦ before_asym (between g labels x y) (between g labels x z)
             (first z apart (subst (λ d. 0 < d.count) same some)) (subst (λ d. Before d (between g labels x y)) same before)

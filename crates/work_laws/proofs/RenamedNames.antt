@@ -1,14 +1,14 @@
 -- Which names occur in a cell and which faces they touch, after one name has taken another.
-use Rattle.std.proofs.Common.{◌≡◌, ◌≢◌, ◌⊎◌, inl, inr, ℕ, ◌+◌, ◌==◌, Bool, ◌&&◌, eqb, List, get_or, refl, sym, ap, ◌∙◌, subst, arith}
+use Rattle.std.proofs.Common.{◌≡◌, ◌≢◌, ◌⊎◌, inl, inr, ℕ, ◌==◌, ◌&&◌, eqb, List, get_or, sym, ap, ◌∙◌, subst, arith}
 use Rattle.std.specs.Prelude.{IsTrue}
 use Rattle.std.proofs.lemmas.Bool.Decides.{nat_tests}
 use mathlib.Core.Path.{fun_ext}
-use Rattle.agglo_model.specs.Axes.{coordinate}
 use Rattle.agglo_model.specs.Contacts.{renamed}
-use Rattle.agglo_model.specs.Cutting.{Chunking, cell_low, cell_high, face_bits, is_low_artificial, is_high_artificial}
+use Rattle.agglo_model.specs.Cutting.{Chunking}
 use Rattle.agglo_model.specs.Freezing.{is_held, is_part, some_voxel, occurs_in, touched_faces, IsFrozen}
 use Rattle.agglo_model.proofs.Freezing.{occurs_at, part_held, part_name, part_from}
-use Rattle.agglo_model.proofs.Renames.{new_name, label-renamed}
+use Rattle.agglo_model.proofs.Renames.{new_name, label-renamed, not_absorbed}
+use Rattle.work_laws.proofs.SameCells.{faces_of}
 
 same_test : (l a b x : ℕ) → x ≢ a → x ≢ b → eqb (new_name a b l) x ≡ eqb l x
 same_test l a b x xa xb = grind (arith, nat_tests)
@@ -24,24 +24,9 @@ pub occurs-renamed : (c : Chunking) (m : ℕ) (labels : List ℕ) (a b x : ℕ) 
     → occurs_in c m (renamed labels a b) x ≡ occurs_in c m labels x
 occurs-renamed c m labels a b x pb xa xb = ap (some_voxel c) (part-renamed c m labels a b x pb xa xb)
 
--- the faces that the voxels of a test touch
-faces_of : Chunking → ℕ → (ℕ → Bool) → ℕ
-faces_of c m part = face_bits
-    (λ axis. is_low_artificial c m axis && some_voxel c (λ v. part v && coordinate c.axes v axis == cell_low c m axis))
-    (λ axis. is_high_artificial c m axis && some_voxel c (λ v. part v && coordinate c.axes v axis + 1 == cell_high c m axis))
-
-touched_by : (c : Chunking) (m : ℕ) (labels : List ℕ) (x : ℕ) → touched_faces c m labels x ≡ faces_of c m (is_part c m labels x)
-unfolding faces_of
-touched_by c m labels x = refl
-
 pub touched-renamed : (c : Chunking) (m : ℕ) (labels : List ℕ) (a b x : ℕ) → b ≢ 0 → x ≢ a → x ≢ b
     → touched_faces c m (renamed labels a b) x ≡ touched_faces c m labels x
-touched-renamed c m labels a b x pb xa xb =
-    touched_by c m (renamed labels a b) x ∙ ap (faces_of c m) (part-renamed c m labels a b x pb xa xb)
-    ∙ sym (touched_by c m labels x)
-
-taken_label : (l a b : ℕ) → a ≢ b → new_name a b l ≢ b
-taken_label l a b ab = grind (arith, nat_tests)
+touched-renamed c m labels a b x pb xa xb = ap (faces_of c m) (part-renamed c m labels a b x pb xa xb)
 
 survivor_label : (l a b : ℕ) → new_name a b l ≡ a → (l ≡ a) ⊎ (l ≡ b)
 survivor_label l a b same = grind (arith, nat_tests)
@@ -54,7 +39,7 @@ pub absorbed_gone : (c : Chunking) (m : ℕ) (labels : List ℕ) (a b : ℕ) →
     → ¬ (IsTrue (occurs_in c m (renamed labels a b) b))
 absorbed_gone c m labels a b ab pb occurs =
     let found = (occurs_at c m (renamed labels a b) b).0 occurs in
-    taken_label (get_or labels found.0 0) a b ab
+    not_absorbed a b (get_or labels found.0 0) ab
     (sym (label-renamed labels a b found.0 pb) ∙ part_name c m (renamed labels a b) b found.0 found.1)
 
 -- the survivor still occurs

@@ -10,7 +10,7 @@ use Rattle.agglo_model.specs.Contacts.{differ, are, joins, total}
 use Rattle.agglo_model.specs.Cutting.{Chunking, cell_low, cell_high, is_low_artificial, is_high_artificial, face_bits}
 use Rattle.agglo_model.specs.Freezing.{is_held, is_inside, is_part, some_voxel, occurs_in, touched_faces, IsFrozen}
 use Rattle.agglo_model.specs.RegionGraph.{RegionGraph, IsGraphOfNames, between_inside}
-use Rattle.work_laws.proofs.Tests.{same_where}
+use Rattle.agglo_model.proofs.Tests.{same_where}
 
 -- the lists have the same labels in the cell of node m
 abbrev pub AgreeIn : Chunking → ℕ → List ℕ → List ℕ → Type 0
@@ -20,7 +20,7 @@ same_and : (x y b : Bool) → (b ≡ true → x ≡ y) → (x && b) ≡ (y && b)
 same_and x y b same = and_comm x b ∙ same_where b x y same ∙ and_comm b y
 
 -- the faces that a set of voxels touches
-abbrev faces_of : Chunking → ℕ → (ℕ → Bool) → ℕ
+abbrev pub faces_of : Chunking → ℕ → (ℕ → Bool) → ℕ
 faces_of c m part = face_bits
     (λ axis. is_low_artificial c m axis && some_voxel c (λ v. part v && coordinate c.axes v axis == cell_low c m axis))
     (λ axis. is_high_artificial c m axis && some_voxel c (λ v. part v && coordinate c.axes v axis + 1 == cell_high c m axis))

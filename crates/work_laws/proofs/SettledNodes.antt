@@ -2,7 +2,7 @@
 use Rattle.std.proofs.Common.{◌≡◌, ◌≢◌, ◌⊎◌, inl, inr, ℕ, ◌<◌, Bool, true, eqb, List, [], ◌∷◌, refl, sym, ap, ◌∙◌, subst, arith}
 use Rattle.std.specs.Prelude.{Contains, IsTrue, bit_and}
 use Rattle.std.specs.List.{list_any}
-use Rattle.std.proofs.lemmas.Bool.{eqb-true, eq-eqb}
+use Rattle.std.proofs.lemmas.Bool.{eqb-true, eq-eqb, cases_eq}
 use Rattle.std.proofs.lemmas.List.Folds.{Any-from_list_any, list_any_at}
 use Rattle.agglo_model.specs.Grid.{Grid}
 use Rattle.agglo_model.specs.PairOrder.{Threshold, Reaches}
@@ -18,27 +18,18 @@ use Rattle.agglo_model.proofs.ContactEdges.{between-swap, InContact-swap, InCont
 use Rattle.agglo_model.proofs.Means.{before-reaches}
 use Rattle.agglo_model.proofs.FirstPartners.{first_partner_exists}
 use Rattle.agglo_model.proofs.Freezing.{frozen_touches}
+use Rattle.agglo_model.proofs.Cases.{apart_cases}
 use Rattle.work_laws.proofs.FaceSets.{frozen_by_faces}
 use Rattle.work_laws.proofs.InsideContacts.{inside-swap}
 use Rattle.work_laws.proofs.NodeSteps.{free_contact, partner_occurs, reaching_kept, kept_edge, node_pair, graph_pair}
 use Rattle.work_laws.proofs.NodeAfter.{node_after}
-
--- a number is 0 or not
-zero_or_some : (n : ℕ) → (n ≡ 0) ⊎ (n ≢ 0)
-zero_or_some n = grind arith
-
-same_or_apart : (x y : ℕ) → (x ≡ y) ⊎ (x ≢ y)
-same_or_apart x y = grind arith
-
-order_cases : (x y : ℕ) → x ≢ y → (x < y) ⊎ (y < x)
-order_cases x y xy = grind arith
 
 -- a name with a contact that reaches the threshold has a first pair that does
 pub first_pair_reaches : (g : Grid) (t : Threshold) (labels : List ℕ) (x y : ℕ) → InContact g labels x y
     → Reaches t (between g labels x y) → FirstPairReaches g t labels x
 first_pair_reaches g t labels x y touching reaches = elim (first_partner_exists g labels x) [
   | inl none ↦ absurd (none y touching)
-  | inr (z, first) ↦ (z, first, by_partner z first (same_or_apart y z))
+  | inr (z, first) ↦ (z, first, by_partner z first (cases_eq y z))
 ]
   where
     by_partner : (z : ℕ) → IsFirstPartner g labels x z → (y ≡ z) ⊎ (y ≢ z) → Reaches t (between g labels x z)
@@ -50,7 +41,7 @@ module _ (keeps : ℕ → Bool) (g : Grid) (t : Threshold) (c : Chunking) (n : �
     (node : IsNodeGraph (λ x. IsTrue (keeps x)) g t c n labels last) where
   -- whether a name is frozen
   frozen_or_free : (x : ℕ) → IsTrue (occurs_in c n labels x) → IsFrozen c n labels x ⊎ IsFree c n labels x
-  frozen_or_free x occurs = elim (zero_or_some (touched_faces c n labels x)) [
+  frozen_or_free x occurs = elim (cases_eq (touched_faces c n labels x) 0) [
     | inl zero ↦ inr (record { occurs = occurs; unfrozen = λ frozen. (frozen_touches c n labels x).0 frozen zero })
     | inr some ↦ inl ((frozen_touches c n labels x).1 some)
   ]
@@ -76,7 +67,7 @@ module _ (keeps : ℕ → Bool) (g : Grid) (t : Threshold) (c : Chunking) (n : �
   -- a free name whose first pair reaches has an edge that does
   passes_edge : (x : ℕ) → x ≢ 0 → IsFree c n labels x → FirstPairReaches g t labels x
       → (e : GraphEdge) × Contains last.edges e × IsAt x e × Reaches t e.contact
-  passes_edge x some free (y, first, reaches) = elim (order_cases x y names.2) [
+  passes_edge x some free (y, first, reaches) = elim (apart_cases x y names.2) [
     | inl less ↦ (
       record { a = x; b = y; contact = between_inside g c n labels x y },
       kept_edge keeps g t c n labels last node x y kx ky less count,

@@ -6,14 +6,14 @@ use Rattle.std.proofs.lemmas.Grind.{fold-append}
 use Rattle.agglo_model.specs.Grid.{Grid}
 use Rattle.agglo_model.specs.PairOrder.{Threshold}
 use Rattle.agglo_model.specs.Greedy.{Merge, after_merge, after_merges}
-use Rattle.agglo_model.specs.Cutting.{Chunking, node_count, cells_at, last_level}
+use Rattle.agglo_model.specs.Cutting.{Chunking, node_count}
 use Rattle.agglo_model.specs.Work.{IsWork, AreWorksFrom, all_merges, work_of, labels_before, labels_after}
 use Rattle.agglo_model.specs.NodeLaws.{AreWorksOn}
 use Rattle.agglo_model.specs.RegionGraph.{RegionGraph, IsCellGraph, IsResidue}
 use Rattle.agglo_model.specs.Joining.{is_named, kept_regions}
 use Rattle.agglo_model.specs.JoiningLaws.{StartsNode}
-use Rattle.agglo_model.proofs.Levels.{first_node_le}
 use Rattle.agglo_model.proofs.Works.{labels_after-is, connected_before}
+use Rattle.agglo_model.proofs.WaitingCells.{leaf_below}
 use Rattle.work_laws.specs.SettlingLaws.{IsWorkOf}
 use Rattle.work_laws.specs.Turns.{IsTurn, NodesTakeTurns, LeavesTakeTurns, ParentsTakeTurns, ResiduesStay}
 use Rattle.work_laws.proofs.SettledNodes.{settling_is_work}
@@ -109,9 +109,6 @@ all_kept g t c m labels graph is = record {
   frozen = λ x some frozen. refl;
   others = λ x some occurs unkept. absurd (unkept refl);
 }
-
-leaf_below : (c : Chunking) (m : ℕ) → m < cells_at c 0 → m < node_count c
-leaf_below c m below = omega (arith, first_node_le c 1 (suc (last_level c)) (omega arith))
 
 pub leaves_take_turns : LeavesTakeTurns
 leaves_take_turns g t c labels works on m worked leaf graph is merges left settles =

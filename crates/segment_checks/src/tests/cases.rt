@@ -23,7 +23,7 @@ const WORKERS: [u32; 6] = [1, 2, 3, 5, 8, 32];
 /// The case of a seed below `CASES`. Each of the 60 axes from 1, 1, 1 to 5, 4, 3 comes with four values of `low`,
 /// and with each of them another threshold, twice and with other bytes; six numbers of workers take turns.
 pub(crate) fn make_case(alloc: Global, seed: u32) -> Result<Case, Fail> {
-    let dims = Dims::new(1 + seed % 5, 1 + seed / 5 % 4, 1 + seed / 20 % 3)?;
+    let axes = [1 + seed % 5, 1 + seed / 5 % 4, 1 + seed / 20 % 3];
     let low = (seed / 60 % 4) as u8;
     let (p, q) = match (seed % 60 + seed / 60) % 4 {
         0 => (0, 1),
@@ -31,21 +31,28 @@ pub(crate) fn make_case(alloc: Global, seed: u32) -> Result<Case, Fail> {
         2 => (3, 2),
         _ => (2, 1),
     };
+    let Ok(threshold) = Threshold::new(p, q) else {
+        return Err("no threshold".into());
+    };
     let settings = Settings {
         low,
-        threshold: Threshold::new(p, q)?,
+        threshold,
         workers: WORKERS[(seed % 6) as usize],
     };
     // at least two of the bytes are strong, and all below `low` may come too
     let distinct = (2 + (seed / 3 % 4) as u8).max(low + 2);
-    let vol = volume(alloc, dims, distinct, seed)?;
+    let vol = volume(alloc, axes, distinct, seed)?;
     Ok(Case { vol, settings })
 }
 
 /// A volume of these axes, of so few distinct bytes that many edges and means are equal.
-fn volume(alloc: Global, dims: Dims, distinct: u8, seed: u32) -> Result<Volume, Fail>
+pub(crate) fn volume(alloc: Global, axes: [u32; 3], distinct: u8, seed: u32) -> Result<Volume, Fail>
     requires { 0 < distinct }
 {
+    let [nx, ny, nz] = axes;
+    let Ok(dims) = Dims::new(nx, ny, nz) else {
+        return Err("no axes of a volume".into());
+    };
     let mut body = Vec::new(alloc);
     let mut random = seed;
     for _ in 0..dims.body_len() {

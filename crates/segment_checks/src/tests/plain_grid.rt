@@ -5,7 +5,7 @@ use std::alloc::{AllocError, Global};
 use volume_file::Volume;
 
 /// An edge of a grid: its number, the two voxels that it joins, and its affinity.
-#[derive(Clone, Copy, Debug, PartialEq, Eq)]
+#[derive(Clone, Copy, PartialEq)]
 pub(crate) struct Edge {
     pub(crate) number: u32,
     pub(crate) lower: u32,

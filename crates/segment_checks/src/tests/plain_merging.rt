@@ -4,7 +4,7 @@ use std::alloc::{AllocError, Global};
 
 /// A merge in plain numbers, or a pair of names that may be merged: the smaller name, the greater one, and the
 /// sum, the count and the least number of the edges between them.
-#[derive(Clone, Copy, Debug, PartialEq, Eq)]
+#[derive(Clone, Copy, Debug, PartialEq)]
 pub(crate) struct Pair {
     pub(crate) survivor: u32,
     pub(crate) absorbed: u32,

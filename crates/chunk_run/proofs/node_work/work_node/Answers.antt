@@ -12,7 +12,7 @@ returns c =
     let kids = graphs_of c.args.kids.items in
     let faces : c.artificial.result ≡ artificial_faces site.cutting c.args.m =
     c.artificial.ensures.value ∙ ap (λ cutting. artificial_faces cutting c.args.m) c.cutting.ensures.value in
-    MatchResult-weaker c.settle.result c.settle.ensures
+    MatchResult-weaker c.settle.result c.settle.ensures.settles
     (λ settled settles. turn_from_start c.leaves_take_turns.ensures c.parents_take_turns.ensures site c.args.m kids
     c.in_ok-graph.graph settled.merges.items settled.residue c.requires.node c.in_ok-graph.ensures
     (subst (λ f. Settles site.threshold f c.in_ok-graph.graph settled.merges.items settled.residue) faces

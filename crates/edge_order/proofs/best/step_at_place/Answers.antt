@@ -6,6 +6,7 @@ use Rattle.edge_order.specs.Steps.{IsBestStep}
 use Rattle.edge_order.specs.declared.step.Step.TheVariants.{BackX, BackY, BackZ, OnX, OnY, OnZ}
 use Rattle.edge_order.proofs.Tracks.{best_of_six, edge_below, edge_on_x, edge_on_y, edge_on_z, layer-le}
 use Rattle.edge_order.proofs.best.step_at_place.Goals as goal
+use Rattle.edge_order.proofs.best.step_at_place.Goals.{After-ny}
 
 pub raised-best-requires-4 : goal.raised-best-requires-4
 raised-best-requires-4 c =
@@ -27,25 +28,21 @@ raised-best-requires-5 c =
     (edge_on_y a c.args.v c.dims-dims.ensures.whole.limits c.requires.voxel)
     (subst₂ (λ y n. nat_lt (y + 1) n ≡ true) y_is ny_is t))
 
-pub overflow_mul-v-6 : goal.overflow_mul-v-6
-overflow_mul-v-6 c =
+-- a layer and the volume have few voxels
+few_of_layer : (c : After-ny) → (c.nx-row.result * c.ny.result ≤ 2 ^ 28) × (voxel_count c.args.vol.now.axes ≤ 2 ^ 28)
+few_of_layer c =
     let a = c.args.vol.now.axes in
     let row_is : c.nx-row.result ≡ a.nx = c.nx-row.ensures.value ∙ ap (λ (d : Axes). d.nx) c.dims-dims.ensures.value in
     let ny_is : c.ny.result ≡ a.ny = c.ny.ensures.value ∙ ap (λ (d : Axes). d.ny) c.dims-dims.ensures.value in
     let layer_is : c.nx-row.result * c.ny.result ≡ a.nx * a.ny = ap₂ (λ m n. m * n) row_is ny_is in
     let wide = layer-le a c.dims-dims.ensures.whole.limits in
-    let most : voxel_count a ≤ 2 ^ 28 = c.dims-dims.ensures.whole.limits.most_voxels in
-    omega arith
+    (omega arith, c.dims-dims.ensures.whole.limits.most_voxels)
+
+pub overflow_mul-v-6 : goal.overflow_mul-v-6
+overflow_mul-v-6 c = omega (arith, few_of_layer (goal.at.overflow_mul-v-6 c).After-ny, c.requires.voxel)
 
 pub overflow_add-v-7 : goal.overflow_add-v-7
-overflow_add-v-7 c =
-    let a = c.args.vol.now.axes in
-    let row_is : c.nx-row.result ≡ a.nx = c.nx-row.ensures.value ∙ ap (λ (d : Axes). d.nx) c.dims-dims.ensures.value in
-    let ny_is : c.ny.result ≡ a.ny = c.ny.ensures.value ∙ ap (λ (d : Axes). d.ny) c.dims-dims.ensures.value in
-    let layer_is : c.nx-row.result * c.ny.result ≡ a.nx * a.ny = ap₂ (λ m n. m * n) row_is ny_is in
-    let wide = layer-le a c.dims-dims.ensures.whole.limits in
-    let most : voxel_count a ≤ 2 ^ 28 = c.dims-dims.ensures.whole.limits.most_voxels in
-    omega arith
+overflow_add-v-7 c = omega (arith, few_of_layer (goal.at.overflow_add-v-7 c).After-ny, c.requires.voxel)
 
 pub raised-best-requires-6 : goal.raised-best-requires-6
 raised-best-requires-6 c =

@@ -4,6 +4,7 @@ use Rattle.region_graph.specs.Boxes.{GainsContacts, ends_among, in_run}
 use Rattle.region_graph.specs.Lists.{count_of}
 use Rattle.region_graph.proofs.BoxRows.{AreRowsSummed, IsRow, row_inner, rows-none, rows-first, rows-more, rows-layer, rows-gained, rows-count}
 use Rattle.region_graph.proofs.contacts.gather.Goals as goal
+use Rattle.region_graph.proofs.contacts.gather.Goals.{After-voxel-row}
 
 pub loop-z-init : goal.loop-z-init
 loop-z-init c =
@@ -16,40 +17,36 @@ loop-y-init c =
     rows-first c.args.site.now.grid c.args.site.now.labels c.args.axis cell.lo cell.hi c.loop-z.z
     c.args.edges.now.items c.loop-z.edges.items c.loop-z.invariant
 
+row_at : (c : After-voxel-row) → IsRow c.args.cell.now.lo c.args.cell.now.hi c.loop-y.y c.loop-z.z
+row_at c = record {
+  y_low = c.loop-y.auto.y;
+  y_high = c.loop-y-test.true;
+  z_low = c.loop-z.auto.z;
+  z_high = c.loop-z-test.true;
+}
+
+first_is : (c : After-voxel-row) → c.voxel-row.result ≡ voxel_at c.args.site.now.grid.axes 0 c.loop-y.y c.loop-z.z
+first_is c =
+    c.voxel-row.ensures.value
+    ∙ ap (λ b. voxel_at b 0 c.loop-y.y c.loop-z.z) (c.dims-dims.ensures.value ∙ ap (λ g. g.axes) c.vol.ensures.value)
+
 pub add_row-requires-clause-inner : goal.add_row-requires-clause-inner
 add_row-requires-clause-inner c v from to =
-    let a = c.args.site.now.grid.axes in
     let cell = c.args.cell.now in
-    let y = c.loop-y.y in
-    let z = c.loop-z.z in
-    let row : IsRow cell.lo cell.hi y z = record {
-      y_low = c.loop-y.auto.y;
-      y_high = c.loop-y-test.true;
-      z_low = c.loop-z.auto.z;
-      z_high = c.loop-z-test.true;
-    } in
-    let first : c.voxel-row.result ≡ voxel_at a 0 y z =
-    c.voxel-row.ensures.value ∙ ap (λ b. voxel_at b 0 y z) (c.dims-dims.ensures.value ∙ ap (λ g. g.axes) c.vol.ensures.value) in
-    row_inner a cell.lo cell.hi y z c.args.axis v c.requires.cell_fits row c.requires.axis c.requires.inner
-    (subst (λ n. n + get_or cell.lo 0 0 ≤ v) first from) (subst (λ n. v < n + get_or cell.hi 0 0) first to)
+    let at = (goal.at.add_row-requires-clause-inner c).After-voxel-row in
+    row_inner c.args.site.now.grid.axes cell.lo cell.hi c.loop-y.y c.loop-z.z c.args.axis v c.requires.cell_fits (row_at at)
+    c.requires.axis c.requires.inner
+    (subst (λ n. n + get_or cell.lo 0 0 ≤ v) (first_is at) from) (subst (λ n. v < n + get_or cell.hi 0 0) (first_is at) to)
 
 pub loop-y-preserved : goal.loop-y-preserved
 loop-y-preserved c =
     let g = c.args.site.now.grid in
     let labels = c.args.site.now.labels in
     let cell = c.args.cell.now in
-    let y = c.loop-y.y in
-    let z = c.loop-z.z in
-    let row : IsRow cell.lo cell.hi y z = record {
-      y_low = c.loop-y.auto.y;
-      y_high = c.loop-y-test.true;
-      z_low = c.loop-z.auto.z;
-      z_high = c.loop-z-test.true;
-    } in
-    let first : c.voxel-row.result ≡ voxel_at g.axes 0 y z =
-    c.voxel-row.ensures.value ∙ ap (λ b. voxel_at b 0 y z) (c.dims-dims.ensures.value ∙ ap (λ h. h.axes) c.vol.ensures.value) in
-    rows-more g labels c.args.axis cell.lo cell.hi y z c.args.edges.now.items c.loop-y.edges.items c.add_row.new.edges.items
-    c.requires.cell_fits row c.loop-y.invariant
+    let at = (goal.at.loop-y-preserved c).After-voxel-row in
+    let first = first_is at in
+    rows-more g labels c.args.axis cell.lo cell.hi c.loop-y.y c.loop-z.z c.args.edges.now.items c.loop-y.edges.items c.add_row.new.edges.items
+    c.requires.cell_fits (row_at at) c.loop-y.invariant
     (subst (λ n. GainsContacts g labels (ends_among c.args.axis (in_run (n + get_or cell.lo 0 0) (n + get_or cell.hi 0 0)))
     c.loop-y.edges.items c.add_row.new.edges.items) first c.in_ok-add_row.ensures.gains)
     (subst (λ n. count_of c.add_row.new.edges.items ≤ count_of c.loop-y.edges.items + ((n + get_or cell.hi 0 0) - (n + get_or cell.lo 0 0)))

@@ -1,9 +1,19 @@
 use Rattle.std.proofs.Common.{◌≡◌, sym, subst, arith}
 use Rattle.agglo_model.specs.Cutting.{high_corner}
-use Rattle.region_graph.specs.Boxes.{GainsContacts, IsBox, ends_among, in_box}
-use Rattle.region_graph.proofs.Layers.{corners_are, corners_box, corners_three, above_box, low_fits}
+use Rattle.region_graph.specs.Boxes.{GainsContacts, IsBox, IsSomeBox, ends_among, in_box}
+use Rattle.region_graph.proofs.Layers.{AreCorners, corners_are, corners_box, corners_three, above_box, low_fits}
 use Rattle.region_graph.proofs.AxisContacts.{AreAxesSummed, axes-none, axes-more, axes-contacts}
 use Rattle.region_graph.proofs.leaf.contacts_inside.Goals as goal
+use Rattle.region_graph.proofs.leaf.contacts_inside.Goals.{After-cell-cell}
+
+-- the corners of the node's cell, which is a box
+corners_at : (c : After-cell-cell) → AreCorners c.args.site.now.cutting c.args.m c.cell-cell.result.lo c.cell-cell.result.hi
+corners_at c = corners_are c.cutting.result.now c.args.site.now.cutting c.args.m c.cell-cell.result.lo c.cell-cell.result.hi
+    c.cutting.ensures.value c.cell-cell.ensures.low c.cell-cell.ensures.high
+
+box_at : (c : After-cell-cell) → IsSomeBox c.args.site.now.grid.axes c.cell-cell.result.lo c.cell-cell.result.hi
+box_at c = corners_box c.args.site.now.cutting c.args.site.now.grid.axes c.args.m c.cell-cell.result.lo c.cell-cell.result.hi
+    c.cutting.ensures.site.chunking c.cutting.ensures.site.same_axes c.requires (corners_at c)
 
 pub loop-axis-init : goal.loop-axis-init
 loop-axis-init c =
@@ -14,21 +24,17 @@ loop-axis-init c =
 pub above_lowest-requires-clause-fits : goal.above_lowest-requires-clause-fits
 above_lowest-requires-clause-fits c =
     let s = c.args.site.now in
-    let site = c.cutting.ensures.site in
     let cell = c.cell-cell.result in
-    let corners = corners_are c.cutting.result.now s.cutting c.args.m cell.lo cell.hi c.cutting.ensures.value
-    c.cell-cell.ensures.low c.cell-cell.ensures.high in
-    let box = corners_box s.cutting s.grid.axes c.args.m cell.lo cell.hi site.chunking site.same_axes c.requires corners in
-    low_fits s.grid.axes cell.lo cell.hi c.loop-axis.axis site.whole.limits box c.loop-axis-test.true
+    let box = box_at (goal.at.above_lowest-requires-clause-fits c).After-cell-cell in
+    low_fits s.grid.axes cell.lo cell.hi c.loop-axis.axis c.cutting.ensures.site.whole.limits box c.loop-axis-test.true
 
 pub gather-requires-clause-cell_fits : goal.gather-requires-clause-cell_fits
 gather-requires-clause-cell_fits c =
     let s = c.args.site.now in
-    let site = c.cutting.ensures.site in
     let cell = c.cell-cell.result in
-    let corners = corners_are c.cutting.result.now s.cutting c.args.m cell.lo cell.hi c.cutting.ensures.value
-    c.cell-cell.ensures.low c.cell-cell.ensures.high in
-    let box = corners_box s.cutting s.grid.axes c.args.m cell.lo cell.hi site.chunking site.same_axes c.requires corners in
+    let at = (goal.at.gather-requires-clause-cell_fits c).After-cell-cell in
+    let corners = corners_at at in
+    let box = box_at at in
     let three = (corners_three s.cutting c.args.m cell.lo cell.hi corners).0 in
     subst (λ z. IsBox s.grid.axes z.lo z.hi) (sym c.above_lowest.ensures)
     (above_box s.grid.axes cell.lo cell.hi c.loop-axis.axis c.loop-axis-test.true three box)
@@ -48,8 +54,7 @@ returns-clause-contacts c =
     let s = c.args.site.now in
     let site = c.cutting.ensures.site in
     let cell = c.cell-cell.result in
-    let corners = corners_are c.cutting.result.now s.cutting c.args.m cell.lo cell.hi c.cutting.ensures.value
-    c.cell-cell.ensures.low c.cell-cell.ensures.high in
+    let corners = corners_at (goal.at.returns-clause-contacts c).After-cell-cell in
     let end : c.loop-axis.axis ≡ 3 = omega arith in
     axes-contacts s.grid s.labels s.cutting c.args.m c.loop-axis.edges.items site.chunking site.same_axes c.requires
     (subst (λ ls. AreAxesSummed s.grid s.labels ls (high_corner s.cutting c.args.m) 3 c.loop-axis.edges.items) corners.low

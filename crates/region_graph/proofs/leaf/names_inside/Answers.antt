@@ -1,21 +1,28 @@
 use Rattle.std.proofs.Common.{◌≡◌, refl, sym, ◌∙◌, subst, arith}
 use Rattle.agglo_model.specs.Cutting.{low_corner, high_corner}
-use Rattle.region_graph.specs.Boxes.{GainsNames, GainsFaces, IsBox, in_box}
+use Rattle.region_graph.specs.Boxes.{GainsNames, GainsFaces, IsBox, IsSomeBox, in_box}
 use Rattle.region_graph.proofs.NameGains.{names-equal}
-use Rattle.region_graph.proofs.Layers.{corners_are, corners_box, some_box}
+use Rattle.region_graph.proofs.Layers.{AreCorners, corners_are, corners_box, some_box}
 use Rattle.region_graph.proofs.FaceNames.{AreFacesNamed, faces-none, faces-more, faces-all}
 use Rattle.region_graph.proofs.leaf.names_inside.Goals as goal
+use Rattle.region_graph.proofs.leaf.names_inside.Goals.{After-cell-cell}
+
+-- the corners of the node's cell, which is a box
+corners_at : (c : After-cell-cell) → AreCorners c.args.site.now.cutting c.args.m c.cell-cell.result.lo c.cell-cell.result.hi
+corners_at c = corners_are c.cutting.result.now c.args.site.now.cutting c.args.m c.cell-cell.result.lo c.cell-cell.result.hi
+    c.cutting.ensures.value c.cell-cell.ensures.low c.cell-cell.ensures.high
+
+box_at : (c : After-cell-cell) → IsSomeBox c.args.site.now.grid.axes c.cell-cell.result.lo c.cell-cell.result.hi
+box_at c = corners_box c.args.site.now.cutting c.args.site.now.grid.axes c.args.m c.cell-cell.result.lo c.cell-cell.result.hi
+    c.cutting.ensures.site.chunking c.cutting.ensures.site.same_axes c.requires (corners_at c)
 
 pub add_names-requires : goal.add_names-requires
 add_names-requires c =
     let s = c.args.site.now in
-    let site = c.cutting.ensures.site in
     let cell = c.cell-cell.result in
-    let corners = corners_are c.cutting.result.now s.cutting c.args.m cell.lo cell.hi c.cutting.ensures.value
-    c.cell-cell.ensures.low c.cell-cell.ensures.high in
     subst (λ a. IsBox a cell.lo cell.hi) (sym c.labels.ensures.axes)
     (some_box s.grid.axes cell.lo cell.hi
-    (corners_box s.cutting s.grid.axes c.args.m cell.lo cell.hi site.chunking site.same_axes c.requires corners))
+    (box_at (goal.at.add_names-requires c).After-cell-cell))
 
 pub loop-axis-init : goal.loop-axis-init
 loop-axis-init c =
@@ -23,8 +30,7 @@ loop-axis-init c =
     let site = c.cutting.ensures.site in
     let cell = c.cell-cell.result in
     let held = c.labels.result.now in
-    let corners = corners_are c.cutting.result.now s.cutting c.args.m cell.lo cell.hi c.cutting.ensures.value
-    c.cell-cell.ensures.low c.cell-cell.ensures.high in
+    let corners = corners_at (goal.at.loop-axis-init c).After-cell-cell in
     let axes_are : held.axes ≡ s.cutting.axes = c.labels.ensures.axes ∙ sym site.same_axes in
     faces-none s.cutting c.args.m s.labels c.add_names.new.regions.items site.chunking c.requires
     (subst (λ es. GainsNames s.cutting.axes s.labels (in_box s.cutting.axes (low_corner s.cutting c.args.m) (high_corner s.cutting c.args.m)) 0
@@ -36,12 +42,7 @@ loop-axis-init c =
 
 pub add_faces-requires-clause-cell_fits : goal.add_faces-requires-clause-cell_fits
 add_faces-requires-clause-cell_fits c =
-    let s = c.args.site.now in
-    let site = c.cutting.ensures.site in
-    let cell = c.cell-cell.result in
-    let corners = corners_are c.cutting.result.now s.cutting c.args.m cell.lo cell.hi c.cutting.ensures.value
-    c.cell-cell.ensures.low c.cell-cell.ensures.high in
-    corners_box s.cutting s.grid.axes c.args.m cell.lo cell.hi site.chunking site.same_axes c.requires corners
+    box_at (goal.at.add_faces-requires-clause-cell_fits c).After-cell-cell
 
 pub loop-axis-preserved : goal.loop-axis-preserved
 loop-axis-preserved c =
@@ -51,8 +52,7 @@ loop-axis-preserved c =
     let axis = c.loop-axis.axis in
     let now = c.loop-axis.regions.items in
     let after = c.add_faces.new.regions.items in
-    let corners = corners_are c.cutting.result.now s.cutting c.args.m cell.lo cell.hi c.cutting.ensures.value
-    c.cell-cell.ensures.low c.cell-cell.ensures.high in
+    let corners = corners_at (goal.at.loop-axis-preserved c).After-cell-cell in
     faces-more s.cutting c.args.m s.labels axis now after site.chunking c.requires c.loop-axis-test.true c.loop-axis.invariant
     (subst (λ a. GainsFaces a s.labels (low_corner s.cutting c.args.m) (high_corner s.cutting c.args.m) axis now after) (sym site.same_axes)
     (subst (λ ls. GainsFaces s.grid.axes s.labels ls (high_corner s.cutting c.args.m) axis now after) corners.low

@@ -8,6 +8,7 @@ use Rattle.region_graph.specs.Lists.{order_of}
 use Rattle.region_graph.proofs.Gaining.{all_moved}
 use Rattle.region_graph.proofs.EdgeSums.{AreSummed, none_summed, summed_next, summed-ascend, summed-ordered, summed-touching, summed-contacts, summed-count}
 use Rattle.region_graph.proofs.sums.sum_contacts.Goals as goal
+use Rattle.region_graph.proofs.sums.sum_contacts.Goals.{After-loop-edge}
 
 pub loop-edge-init : goal.loop-edge-init
 loop-edge-init c = subst (AreSummed []) (sym c.new-summed.ensures.items) none_summed
@@ -34,12 +35,16 @@ loop-edge-preserved c =
 pub returns-clause-ascend : goal.returns-clause-ascend
 returns-clause-ascend c = summed-ascend (take c.loop-edge.edge-index c.deref-edge-items.result.now) c.loop-edge.summed.items c.loop-edge.invariant
 
+-- all of the list has been gone over, in another order
+moved : (c : After-loop-edge) → IsPermutation c.args.edges.items (take c.loop-edge.edge-index c.deref-edge-items.result.now)
+moved c = all_moved c.args.edges.items c.sort_unstable_by_key.new.self.items c.deref-edge-items.result.now c.loop-edge.edge-index
+    c.sort_unstable_by_key.ensures.permutation c.deref-edge-items.ensures.value c.loop-edge-test.false
+
 pub returns-clause-ordered : goal.returns-clause-ordered
 returns-clause-ordered c =
     let k = c.loop-edge.edge-index in
     summed-ordered c.args.edges.items (take k c.deref-edge-items.result.now) c.loop-edge.summed.items c.loop-edge.invariant
-    (all_moved c.args.edges.items c.sort_unstable_by_key.new.self.items c.deref-edge-items.result.now k
-    c.sort_unstable_by_key.ensures.permutation c.deref-edge-items.ensures.value c.loop-edge-test.false) c.requires.ordered
+    (moved (goal.at.returns-clause-ordered c).After-loop-edge) c.requires.ordered
 
 pub returns-clause-touching : goal.returns-clause-touching
 returns-clause-touching c =
@@ -49,12 +54,10 @@ pub returns-clause-contacts : goal.returns-clause-contacts
 returns-clause-contacts c =
     let k = c.loop-edge.edge-index in
     summed-contacts c.args.edges.items (take k c.deref-edge-items.result.now) c.loop-edge.summed.items c.loop-edge.invariant
-    (all_moved c.args.edges.items c.sort_unstable_by_key.new.self.items c.deref-edge-items.result.now k
-    c.sort_unstable_by_key.ensures.permutation c.deref-edge-items.ensures.value c.loop-edge-test.false)
+    (moved (goal.at.returns-clause-contacts c).After-loop-edge)
 
 pub returns-clause-count : goal.returns-clause-count
 returns-clause-count c =
     let k = c.loop-edge.edge-index in
     summed-count c.args.edges.items (take k c.deref-edge-items.result.now) c.loop-edge.summed.items c.loop-edge.invariant
-    (all_moved c.args.edges.items c.sort_unstable_by_key.new.self.items c.deref-edge-items.result.now k
-    c.sort_unstable_by_key.ensures.permutation c.deref-edge-items.ensures.value c.loop-edge-test.false)
+    (moved (goal.at.returns-clause-count c).After-loop-edge)

@@ -1,5 +1,0 @@
-use Rattle.chunk_run.proofs.tests.a_row_in_two_lanes.Goals as goal
-
-pub new-site-requires-clause-connected : goal.new-site-requires-clause-connected
-new-site-requires-clause-connected g c =
-    c.basins_are_connected.ensures c.in_ok-vol.vol 1 c.in_ok-labels.labels.labels c.in_ok-labels.ensures.basins

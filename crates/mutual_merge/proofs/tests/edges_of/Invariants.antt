@@ -1,6 +1,0 @@
-use Rattle.std.proofs.Common.{◌≡◌, map, take}
-use Rattle.mutual_merge.specs.Samples.{sample_edge}
-use Rattle.mutual_merge.proofs.tests.edges_of.Given as goal
-
-abbrev pub invariant-loop-a : goal.invariant-loop-a
-invariant-loop-a l = l.edges.items ≡ map sample_edge (take l.a-index l.numbers)

@@ -1,6 +1,0 @@
-use Rattle.std.proofs.Common.{◌≡◌, map, take}
-use Rattle.mutual_merge.specs.Samples.{sample_region}
-use Rattle.mutual_merge.proofs.tests.regions_of.Given as goal
-
-abbrev pub invariant-loop-name : goal.invariant-loop-name
-invariant-loop-name l = l.regions.items ≡ map sample_region (take l.name-index l.numbers)

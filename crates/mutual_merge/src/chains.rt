@@ -1,0 +1,142 @@
+ghost use Rattle.std.specs.Prelude.{◌≡◌, ◌<◌, ◌^◌, ◌↔◌, ◌×◌, IfOk, IsTrue, length};
+ghost use Rattle.agglo_model.specs.RegionGraph.{RegionGraph};
+ghost use Rattle.mutual_merge.specs.Linked.{AreLinked};
+ghost use Rattle.mutual_merge.specs.Rounds.{HasMerged};
+ghost use Rattle.mutual_merge.specs.Slots.{
+  AreFree,
+  AreListedSlots,
+  HaveMergedInto,
+  IsEnd,
+  IsFirstAt,
+  IsFirstPairAt,
+  IsSlotLink,
+  NoneIsBefore,
+};
+
+use crate::closing::close;
+use crate::links::Link;
+use crate::merging::LinkedGraph;
+use crate::pairs::is_free;
+use crate::slot_links::other_end;
+use crate::slots::Slots;
+use agglo_model::Memory;
+use mean_fraction::{Threshold, rank};
+use merge_tree::Merge;
+use region_graph::Region;
+use std::alloc::Global;
+use std::cmp::Ordering;
+
+/// A graph after merges were made in it, and the merges.
+#[derive(Drop)]
+pub struct Chained {
+    pub graph: LinkedGraph,
+    pub merges: Vec<Merge>,
+}
+
+/// Merges reciprocal pairs of a graph along chains of neighbours: from each region one goes to the partner of its first
+/// contact, from there to the partner's, and so on, until two regions are first for each other, and these are merged.
+/// Contacts come earlier along a chain, so it ends; a chain that comes to a region that is held back waits for that, and
+/// none of its regions is looked at again.
+///
+/// Neighbour chains are after Benzecri, Construction d'une classification ascendante hierarchique par la recherche en
+/// chaine des voisins reciproques (1982). What is told of the merges does not rest on how far chains go: a pair that is
+/// left is one of the graph that is left.
+pub fn merge_chains(
+    alloc: Global,
+    graph: LinkedGraph,
+    threshold: &Threshold,
+    frozen: u8,
+) -> Result<Chained, Memory>
+    requires linked { AreLinked graph.regions.items graph.links.items }
+    requires few { length graph.regions.items < 2 ^ 32 }
+    ensures { IfOk result (λ chained. HasMerged threshold.now frozen graph.regions.items graph.links.items
+        chained.merges.items chained.graph.regions.items chained.graph.links.items) }
+{
+    let count = graph.regions.len();
+    let mut slots = Slots::open(alloc, graph)?;
+    let mut merging = Merging::new(alloc, count)?;
+    for slot in 0..count {
+        merging.follow(&mut slots, slot as u32, threshold, frozen)?;
+    }
+    let graph = close(alloc, &slots.regions, &slots.closed, &slots.links)?;
+    Ok(Chained {
+        graph,
+        merges: merging.merges,
+    })
+}
+
+/// Where a chain ends.
+#[derive(Clone, Copy)]
+enum End {
+    /// With two regions that are first for each other, by the index of their link.
+    Pair(u32),
+    /// With a region of which no contact reaches the threshold.
+    Weak,
+    /// With a region that waits for one that is held back.
+    Held,
+}
+
+/// The merges so far, the chain that is followed, the slots that wait for one that is held back, and room to work in.
+#[derive(Drop)]
+struct Merging {
+    merges: Vec<Merge>,
+    chain: Vec<u32>,
+    held: Vec<bool>,
+    one: Vec<u32>,
+    other: Vec<u32>,
+}
+
+impl Merging {
+    fn new(alloc: Global, slots: usize) -> Result<Merging, Memory>
+        ensures { IfOk result (λ merging. merging.merges.items ≡ []) }
+    {
+        Ok(Merging {
+            merges: Vec::new(alloc),
+            chain: Vec::new(alloc),
+            held: Vec::from_elem(alloc, false, slots)?,
+            one: Vec::new(alloc),
+            other: Vec::new(alloc),
+        })
+    }
+
+    /// Follows chains from a slot until nothing is left of them.
+    fn follow(
+        &mut self,
+        slots: &mut Slots,
+        start: u32,
+        threshold: &Threshold,
+        frozen: u8,
+    ) -> Result<(), Memory>
+        requires { AreListedSlots slots.old.regions.items slots.old.closed.items slots.old.links.items slots.old.lists slots.old.marks.items }
+        ensures listed { IfOk result (λ _. AreListedSlots slots.new.regions.items slots.new.closed.items slots.new.links.items slots.new.lists slots.new.marks.items) }
+        ensures merged { IfOk result (λ _. (graph : RegionGraph)
+            → HaveMergedInto threshold.now frozen graph self.old.merges.items slots.old.regions.items slots.old.closed.items slots.old.links.items
+            → HaveMergedInto threshold.now frozen graph self.new.merges.items slots.new.regions.items slots.new.closed.items slots.new.links.items) }
+    {
+        self.chain.clear();
+        self.chain.push(start)?;
+        for _ in 0..u64::MAX {
+            let Some(last) = self.last(slots.regions.len()) else {
+                return Ok(());
+            };
+            match self.climb(slots, last, threshold, frozen)? {
+                End::Pair(index) => self.merge(slots, index)?,
+                End::Weak => {
+                    let _ = self.chain.pop();
+                }
+                End::Held => self.hold(),
+            }
+        }
+        Ok(())
+    }
+
+    /// The last slot of the chain, if it is one of so many.
+    fn last(&self, slots: usize) -> Option<u32>
+        ensures { IfSome result (λ last. last < slots) }
+    {
+        match self.chain.last() {
+            Some(last) if (*last as usize) < slots => Some(*last),
+            _ => None,
+        }
+    }
+}

@@ -1,5 +1,0 @@
-use Rattle.parent_join.proofs.tests.joined.Goals as goal
-
-pub new-site-requires-clause-connected : goal.new-site-requires-clause-connected
-new-site-requires-clause-connected c =
-    c.basins_are_connected.ensures c.args.vol.now 1 c.in_ok-labels.labels.labels c.in_ok-labels.ensures.basins

@@ -1,0 +1,2 @@
+pub mod KidPushes
+pub mod SampleGraphs
