@@ -9,3 +9,4 @@ pub mod Rounds
 pub mod Slots
 pub mod Moved
 pub mod Closing
+pub mod Chains

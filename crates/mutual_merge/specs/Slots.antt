@@ -1,6 +1,6 @@
 -- A region graph while merges are made in it. Each region has a slot, which is closed when its region is taken into
 -- another one; links join slots, in either order. A link from a slot to itself is gone, and says nothing.
-use Rattle.std.specs.Prelude.{◌≡◌, ◌≢◌, ℕ, ◌<◌, ◌≤◌, ◌⊎◌, ◌↔◌, ◌==◌, ◌+◌, ◌*◌, Bool, true, false, cond, List, All, Contains, Option, Some, None, length, sum_by, slice_index_or, slice_set, ◌/◌, bit_and, bit_or, min, max}
+use Rattle.std.specs.Prelude.{◌≡◌, ◌≢◌, ℕ, ◌<◌, ◌≤◌, ◌⊎◌, ◌↔◌, ◌==◌, ◌+◌, ◌*◌, Bool, true, false, cond, List, [], ◌∷◌, ◌++◌, All, Contains, Option, Some, None, length, sum_by, slice_index_or, slice_set, ◌/◌, bit_and, bit_or, min, max}
 use Rattle.agglo_model.specs.PairOrder.{Contact, Threshold, Before, Reaches, most_edges}
 use Rattle.agglo_model.specs.Greedy.{Merge}
 use Rattle.agglo_model.specs.RegionGraph.{Region, RegionGraph, IsGraph, contact_in}
@@ -204,6 +204,27 @@ IsPairTried i regions closed links new_regions new_closed new_links None =
     (new_regions ≡ regions) × (new_closed ≡ closed) × (new_links ≡ links)
 IsPairTried i regions closed links new_regions new_closed new_links (Some merge) =
     HasMergedPair i regions closed links new_regions new_closed new_links merge
+
+-- the merge of the pair was appended to others, or all is as it was
+pub record HasNoted (i : ℕ) (regions : List Region) (closed : List Bool) (links : List Link) (new_regions : List Region) (new_closed : List Bool) (new_links : List Link) (merges new_merges : List Merge) : Type 0 where
+  pub merge : Merge
+  pub merged : HasMergedPair i regions closed links new_regions new_closed new_links merge
+  pub noted : new_merges ≡ merges ++ merge ∷ []
+
+pub record AllStays (regions : List Region) (closed : List Bool) (links : List Link) (new_regions : List Region) (new_closed : List Bool) (new_links : List Link) (merges new_merges : List Merge) : Type 0 where
+  pub regions_stay : new_regions ≡ regions
+  pub closed_stay : new_closed ≡ closed
+  pub links_stay : new_links ≡ links
+  pub merges_stay : new_merges ≡ merges
+
+abbrev pub HasNotedPair : ℕ → List Region → List Bool → List Link → List Region → List Bool → List Link → List Merge → List Merge → Type 0
+HasNotedPair i regions closed links new_regions new_closed new_links merges new_merges =
+    HasNoted i regions closed links new_regions new_closed new_links merges new_merges
+    ⊎ AllStays regions closed links new_regions new_closed new_links merges new_merges
+
+-- the regions of both slots of a link touch none of the faces
+abbrev pub AreFree : List Region → ℕ → Link → Type 0
+AreFree regions faces l = (bit_and (faces_at regions l.a) faces ≡ 0) × (bit_and (faces_at regions l.b) faces ≡ 0)
 
 -- The merges lead from the graph `start` to slots and links that are the graph after them.
 pub record HaveMergedInto (t : Threshold) (faces : ℕ) (start : RegionGraph) (merges : List Merge) (regions : List Region) (closed : List Bool) (links : List Link) : Type 0 where

@@ -1,4 +1,4 @@
-ghost use Rattle.std.specs.Prelude.{◌≡◌, ◌<◌, ◌^◌, ◌↔◌, ◌×◌, IfOk, IsTrue, length};
+ghost use Rattle.std.specs.Prelude.{◌≡◌, ◌<◌, ◌^◌, ◌↔◌, [], IfOk, IfSome, IsTrue, length};
 ghost use Rattle.agglo_model.specs.RegionGraph.{RegionGraph};
 ghost use Rattle.mutual_merge.specs.Linked.{AreLinked};
 ghost use Rattle.mutual_merge.specs.Rounds.{HasMerged};
@@ -6,12 +6,12 @@ ghost use Rattle.mutual_merge.specs.Slots.{
   AreFree,
   AreListedSlots,
   HaveMergedInto,
-  IsEnd,
-  IsFirstAt,
-  IsFirstPairAt,
+  HasNotedPair,
+  IsLive,
   IsSlotLink,
-  NoneIsBefore,
+  nth_link,
 };
+ghost use Rattle.mutual_merge.specs.Chains.{IsEnd};
 
 use crate::closing::close;
 use crate::links::Link;
@@ -138,5 +138,107 @@ impl Merging {
             Some(last) if (*last as usize) < slots => Some(*last),
             _ => None,
         }
+    }
+
+    /// Goes on from the last slot of the chain along first links, as long as these come earlier, to where it ends.
+    fn climb(
+        &mut self,
+        slots: &mut Slots,
+        start: u32,
+        threshold: &Threshold,
+        frozen: u8,
+    ) -> Result<End, Memory>
+        requires listed { AreListedSlots slots.old.regions.items slots.old.closed.items slots.old.links.items slots.old.lists slots.old.marks.items }
+        requires inside { start < length slots.old.regions.items }
+        ensures listed { IfOk result (λ _. AreListedSlots slots.new.regions.items slots.new.closed.items slots.new.links.items slots.new.lists slots.new.marks.items) }
+        ensures regions { slots.new.regions ≡ slots.old.regions }
+        ensures closed { slots.new.closed ≡ slots.old.closed }
+        ensures links { slots.new.links ≡ slots.old.links }
+        ensures merges { self.new.merges ≡ self.old.merges }
+        ensures end { IfOk result (λ end. IsEnd threshold.now frozen slots.old.regions.items slots.old.links.items end) }
+    {
+        let mut last = start;
+        let mut first = slots.first_of(last, &mut self.one)?;
+        for _ in 0..u64::MAX {
+            let Some(index) = first else {
+                return Ok(End::Weak);
+            };
+            let link = slots.links[index as usize];
+            if !threshold.reaches(&link.contact) {
+                return Ok(End::Weak);
+            }
+            if self.waits(&link) || !are_free(&slots.regions, &link, frozen) {
+                return Ok(End::Held);
+            }
+            let partner = other_end(&link, last);
+            let next = slots.first_of(partner, &mut self.one)?;
+            if next == Some(index) {
+                return Ok(End::Pair(index));
+            }
+            if !is_earlier(&slots.links, next, &link) {
+                return Ok(End::Weak);
+            }
+            self.chain.push(partner)?;
+            last = partner;
+            first = next;
+        }
+        Ok(End::Weak)
+    }
+
+    /// Whether one of the two slots of a link is known to wait.
+    fn waits(&self, link: &Link) -> bool {
+        let a = self.held.get(link.a as usize).copied().unwrap_or(true);
+        let b = self.held.get(link.b as usize).copied().unwrap_or(true);
+        a || b
+    }
+
+    /// Notes that all slots of the chain wait, and gives it up.
+    fn hold(&mut self)
+        ensures { self.new.merges ≡ self.old.merges }
+    {
+        for slot in &self.chain {
+            if let Some(held) = self.held.get_mut(*slot as usize) {
+                *held = true;
+            }
+        }
+        self.chain.clear();
+    }
+
+    /// Merges the pair of a link, whose slots stand in the place of the last of the chain then. Where another link
+    /// joins the same two slots, nothing is merged, and the chain is given up.
+    fn merge(&mut self, slots: &mut Slots, index: u32) -> Result<(), Memory>
+        requires listed { AreListedSlots slots.old.regions.items slots.old.closed.items slots.old.links.items slots.old.lists slots.old.marks.items }
+        requires inside { index < length slots.old.links.items }
+        requires live { IsLive (nth_link slots.old.links.items index) }
+        ensures listed { IfOk result (λ _. AreListedSlots slots.new.regions.items slots.new.closed.items slots.new.links.items slots.new.lists slots.new.marks.items) }
+        ensures merged { IfOk result (λ _. HasNotedPair index slots.old.regions.items slots.old.closed.items slots.old.links.items
+            slots.new.regions.items slots.new.closed.items slots.new.links.items self.old.merges.items self.new.merges.items) }
+    {
+        let link = slots.links[index as usize];
+        match slots.merge(index, &mut self.one, &mut self.other)? {
+            Some(merge) => {
+                self.merges.push(merge)?;
+                let _ = self.chain.pop();
+                self.chain.push(slots.left_of(&link))?;
+            }
+            None => self.hold(),
+        }
+        Ok(())
+    }
+}
+
+/// Whether the regions of both slots of a link touch none of the faces.
+fn are_free(regions: &[Region], link: &Link, frozen: u8) -> bool
+    requires { IsSlotLink (length regions.now) link.now }
+    ensures { IsTrue result ↔ AreFree regions.now frozen link.now }
+{
+    is_free(&regions[link.a as usize], frozen) && is_free(&regions[link.b as usize], frozen)
+}
+
+/// Whether there is a link of this index, and it comes before another one.
+fn is_earlier(links: &[Link], index: Option<u32>, link: &Link) -> bool {
+    match index.and_then(|index| links.get(index as usize)) {
+        Some(next) => rank(&next.contact, &link.contact) == Ordering::Greater,
+        None => false,
     }
 }

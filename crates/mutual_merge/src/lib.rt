@@ -5,6 +5,7 @@
 //! and the threshold. Agglomeration by chunks stands on it.
 #![tactic(auto)]
 
+mod chains;
 mod closing;
 mod firsts;
 mod links;

@@ -34,8 +34,8 @@ pub struct Slots {
     pub regions: Vec<Region>,
     pub closed: Vec<bool>,
     pub links: Vec<Link>,
-    lists: Lists,
-    marks: Vec<u32>,
+    pub lists: Lists,
+    pub marks: Vec<u32>,
 }
 
 impl Slots {
@@ -118,6 +118,14 @@ impl Slots {
             self.take_over(link.b, link.a, other, one);
         }
         Ok(Some(merge))
+    }
+
+    /// The slot of a link's two that is not closed; the second, where neither is.
+    pub fn left_of(&self, link: &Link) -> u32 {
+        match self.closed.get(link.b as usize) {
+            Some(true) => link.a,
+            _ => link.b,
+        }
     }
 
     /// Takes the region of one slot into that of another, and adds up the links that then join the same two slots. The
