@@ -31,3 +31,4 @@ pub mod SlotContacts
 pub mod GatheredSlots
 pub mod OpenSlots
 pub mod TakenSlots
+mod ListedSlots
