@@ -32,3 +32,4 @@ pub mod GatheredSlots
 pub mod OpenSlots
 pub mod TakenSlots
 mod ListedSlots
+mod ListedLinks
