@@ -33,3 +33,4 @@ pub mod OpenSlots
 pub mod TakenSlots
 mod ListedSlots
 mod WrittenBack
+mod ListedLinks

@@ -21,11 +21,17 @@ use Rattle.mutual_merge.specs.Slots.{AreSlots, HasOpen, HaveMovedEnds, IsLive, I
 use Rattle.mutual_merge.proofs.OpenSlots.{open_below, open_pair, open_within, order_cases, reciprocal_at, reciprocal_there, region_there}
 use Rattle.mutual_merge.proofs.SlotContacts.{Contains-nth_link, index_of, joint-alike, sums_below}
 
-slot_taken : (from to k : ℕ) → k ≡ from → slot_after from to k ≡ to
+pub slot_taken : (from to k : ℕ) → k ≡ from → slot_after from to k ≡ to
 slot_taken from to k same = grind (arith, nat_tests)
 
-slot_kept : (from to k : ℕ) → k ≢ from → slot_after from to k ≡ k
+pub slot_kept : (from to k : ℕ) → k ≢ from → slot_after from to k ≡ k
 slot_kept from to k differ = grind (arith, nat_tests)
+
+slot_inside : (from to n k : ℕ) → to < n → k < n → slot_after from to k < n
+slot_inside from to n k in_to in_k = elim (cases_eq k from) [
+  | inl at_from ↦ subst (λ z. z < n) (sym (slot_taken from to k at_from)) in_to
+  | inr kf ↦ subst (λ z. z < n) (sym (slot_kept from to k kf)) in_k
+]
 
 name_taken : (s b x : ℕ) → (x ≡ s) ⊎ (x ≡ b) → cond (eqb x b) s x ≡ s
 name_taken s b x one = grind (arith, nat_tests)
@@ -64,6 +70,21 @@ module _ (from to : ℕ) (links new_links : List Link) (moved : HaveMovedEnds fr
     where
       no_more : (p q a b n : ℕ) → a ≢ b → cond (eqb p q) 0 n ≤ cond (eqb a b) 0 n
       no_more p q a b n ab = grind (arith, nat_tests)
+
+  -- the new ends are slots too
+  pub moved-inside : (n : ℕ) → to < n → All (IsSlotLink n) links → All (IsSlotLink n) new_links
+  moved-inside n in_to each = All-from_get_or (IsSlotLink n) new_links
+      (record { a = 0; b = 0; contact = record { sum = 0; count = 1; tie = 0 } }) (λ j below.
+      let low : j < length links = let len = moved.one_each in omega arith in
+      let is : IsSlotLink n (nth_link links j) = All-contains (IsSlotLink n) links (nth_link links j) each (Contains-nth_link links j low) in
+      elim (new_link j low) [
+        | inl (same, gone) ↦ subst (IsSlotLink n) (sym same) is
+        | inr (after, live) ↦ subst (IsSlotLink n) (sym after) (record {
+          a_inside = slot_inside from to n (nth_link links j).a in_to is.a_inside;
+          b_inside = slot_inside from to n (nth_link links j).b in_to is.b_inside;
+          touching = is.touching;
+        })
+      ])
 
 -- two open slots, and the merge of their regions
 record AreMerging (regions : List Region) (closed : List Bool) (from to : ℕ) (m : Merge) : Type 0 where
@@ -181,35 +202,14 @@ module _ (graph : RegionGraph) (regions : List Region) (closed : List Bool) (lin
     | inr kf ↦ subst (IsOpen new_closed) (sym (slot_kept from to k kf)) (still_open k kf is_open)
   ]
 
-  slot_inside : (n k : ℕ) → to < n → k < n → slot_after from to k < n
-  slot_inside n k in_to in_k = elim (cases_eq k from) [
-    | inl at_from ↦ subst (λ z. z < n) (sym (slot_taken from to k at_from)) in_to
-    | inr kf ↦ subst (λ z. z < n) (sym (slot_kept from to k kf)) in_k
-  ]
-
   links_inside : All (IsSlotLink (length new_regions)) new_links
-  links_inside = All-from_get_or (IsSlotLink (length new_regions)) new_links
-      (record { a = 0; b = 0; contact = record { sum = 0; count = 1; tie = 0 } }) (λ j below.
-      let low : j < length links = let len = same_length in omega arith in
-      subst (λ n. IsSlotLink n (nth_link new_links j)) (sym same_regions) (elim (new_link from to links new_links taken.links_are j low) [
-        | inl (same, gone) ↦ subst (IsSlotLink (length regions)) (sym same) (is_link j low)
-        | inr (moved, live) ↦
-            let is = is_link j low in
-            subst (IsSlotLink (length regions)) (sym moved) (record {
-              a_inside = slot_inside (length regions) (nth_link links j).a in_to is.a_inside;
-              b_inside = slot_inside (length regions) (nth_link links j).b in_to is.b_inside;
-              touching = is.touching;
-            })
-      ]))
+  links_inside =
+      subst (λ n. All (IsSlotLink n) new_links) (sym same_regions)
+      (moved-inside from to links new_links taken.links_are (length regions)
+      (open_below graph regions closed links stands to merging.to_open) stands.slots.links_are.each)
     where
       same_regions : length new_regions ≡ length regions
       same_regions = ap length taken.regions_are ∙ length-set regions to (both_regions (region_at regions to) (region_at regions from))
-
-      in_to : to < length regions
-      in_to = open_below graph regions closed links stands to merging.to_open
-
-      is_link : (j : ℕ) → j < length links → IsSlotLink (length regions) (nth_link links j)
-      is_link j low = All-contains (IsSlotLink (length regions)) links (nth_link links j) stands.slots.links_are.each (Contains-nth_link links j low)
 
   open_then : (l : Link) → Contains new_links l → IsLive l → IsOpen new_closed l.a × IsOpen new_closed l.b
   open_then l inside live =

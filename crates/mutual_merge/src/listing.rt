@@ -1,7 +1,7 @@
 ghost use Rattle.std.specs.Prelude.{◌≡◌, ◌<◌, ◌≤◌, ◌^◌, All, IfOk, length};
 ghost use Rattle.mutual_merge.specs.Linked.{IsLink, link_edges};
 ghost use Rattle.agglo_model.specs.PairOrder.{most_edges};
-ghost use Rattle.index_lists.specs.LinkedLists.{list_at};
+ghost use Rattle.index_lists.specs.LinkedLists.{AreLists, list_at};
 ghost use Rattle.mutual_merge.specs.Slots.{AreItems, AreListed, Covers};
 
 use crate::links::Link;
@@ -16,7 +16,7 @@ pub fn list_links(alloc: Global, links: &[Link], slots: u32) -> Result<Lists, Me
     ensures { IfOk result (λ lists. AreListed slots links.now lists) }
 {
     let mut lists = Lists::open(alloc, slots, 2 * links.len() as u32)?;
-    for (index, link) in links.iter().enumerate().rev() {
+    for (index, link) in links.iter().enumerate() {
         let item = 2 * index as u32;
         lists.push_front(link.a, item);
         lists.push_front(link.b, item + 1);
@@ -47,6 +47,7 @@ pub fn copy_items(
 /// Takes the items of links that are gone out of a slot's list, which has just these items.
 fn unlink_gone(lists: &mut Lists, links: &[Link], slot: u32, items: &[u32])
     requires listed { AreListed (length lists.old.lists) links.now lists.old }
+    requires lawful { AreLists lists.old }
     requires items { items.now ≡ list_at lists.old slot }
     ensures { AreListed (length lists.old.lists) links.now lists.new }
 {
