@@ -1,7 +1,7 @@
 use Rattle.std.proofs.Common.{arith}
 use Rattle.parent_join.specs.Kids.{FitsInto}
 use Rattle.parent_join.proofs.FewEdges.{names_fit}
-use Rattle.region_graph.proofs.Layers.{leaf_is_node}
+use Rattle.agglo_model.proofs.WaitingCells.{leaf_below}
 use Rattle.segment_checks.proofs.tests.graphs.passed.Goals as goal
 use Rattle.segment_checks.proofs.tests.graphs.passed.Goals.{In_ok-graph}
 
@@ -12,7 +12,7 @@ whole_fits c =
     names_fit (λ _. Unit {0}) s.grid s.cutting c.args.leaf s.labels c.in_ok-graph.graph c.in_ok-graph.ensures
 
 pub artificial-frozen-requires : goal.artificial-frozen-requires
-artificial-frozen-requires c = leaf_is_node c.cutting-cutting.result.now c.args.leaf (omega (arith, c.leaves.ensures.value))
+artificial-frozen-requires c = leaf_below c.cutting-cutting.result.now c.args.leaf (omega (arith, c.leaves.ensures.value))
 
 pub returns-in-Residues : goal.returns-in-Residues
 returns-in-Residues c = record {
