@@ -34,3 +34,4 @@ pub mod TakenSlots
 mod ListedSlots
 mod WrittenBack
 mod ListedLinks
+mod MergedPairs
