@@ -35,3 +35,4 @@ mod ListedSlots
 mod WrittenBack
 mod ListedLinks
 mod MergedPairs
+mod FirstPair
