@@ -11,10 +11,13 @@ use Rattle.mutual_merge.specs.Slots.{AreFree, IsFirstAt, IsFirstPairAt, IsLiveAt
 ends_of : (k : ℕ) (l : Link) → IsLiveAt k l → ((l.a ≡ k) × (l.b ≡ other_end k l)) ⊎ ((l.a ≡ other_end k l) × (l.b ≡ k))
 ends_of k l live = elim (cases_eq l.a k) [
   | inl first ↦ inl (first, sym (ap (λ b. cond b l.b l.a) (is_same l.a k first)))
-  | inr second ↦ inr (sym (ap (λ b. cond b l.b l.a) (is_other l.a k second)), elim live.at_slot [
-    | inl first ↦ absurd (second first)
-    | inr at_b ↦ at_b
-  ])
+  | inr second ↦ inr (
+    sym (ap (λ b. cond b l.b l.a) (is_other l.a k second)),
+    elim live.at_slot [
+      | inl first ↦ absurd (second first)
+      | inr at_b ↦ at_b
+    ],
+  )
 ]
   where
     is_same : (x y : ℕ) → x ≡ y → (x == y) ≡ true

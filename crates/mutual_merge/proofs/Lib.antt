@@ -36,3 +36,4 @@ mod WrittenBack
 mod ListedLinks
 mod MergedPairs
 mod FirstPair
+mod MergedInto

@@ -119,15 +119,40 @@ impl Merging {
             let Some(last) = self.last(slots.regions.len()) else {
                 return Ok(());
             };
-            match self.climb(slots, last, threshold, frozen)? {
-                End::Pair(index) => self.merge(slots, index)?,
-                End::Weak => {
-                    let _ = self.chain.pop();
-                }
-                End::Held => self.hold(),
-            }
+            self.go_on(slots, last, threshold, frozen)?;
         }
         Ok(())
+    }
+
+    /// Climbs from the last slot of the chain, and merges the pair that it comes to.
+    fn go_on(
+        &mut self,
+        slots: &mut Slots,
+        last: u32,
+        threshold: &Threshold,
+        frozen: u8,
+    ) -> Result<(), Memory>
+        requires listed { AreListedSlots slots.old.regions.items slots.old.closed.items slots.old.links.items slots.old.lists slots.old.marks.items }
+        requires inside { last < length slots.old.regions.items }
+        ensures listed { IfOk result (λ _. AreListedSlots slots.new.regions.items slots.new.closed.items slots.new.links.items slots.new.lists slots.new.marks.items) }
+        ensures merged { IfOk result (λ _. (graph : RegionGraph)
+            → HaveMergedInto threshold.now frozen graph self.old.merges.items slots.old.regions.items slots.old.closed.items slots.old.links.items
+            → HaveMergedInto threshold.now frozen graph self.new.merges.items slots.new.regions.items slots.new.closed.items slots.new.links.items) }
+    {
+        match self.climb(slots, last, threshold, frozen)? {
+            End::Pair(index) => {
+                self.merge(slots, index)?;
+                Ok(())
+            }
+            End::Weak => {
+                let _ = self.chain.pop();
+                Ok(())
+            }
+            End::Held => {
+                self.hold();
+                Ok(())
+            }
+        }
     }
 
     /// The last slot of the chain, if it is one of so many.
