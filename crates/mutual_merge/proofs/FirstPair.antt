@@ -1,8 +1,8 @@
 -- Two slots that are first for each other.
-use Rattle.std.proofs.Common.{◌≡◌, ◌≢◌, ◌⊎◌, inl, inr, ℕ, ◌==◌, Bool, true, false, cond, List, Some, sym, ap, ◌∙◌, subst, arith}
+use Rattle.std.proofs.Common.{◌≡◌, ◌≢◌, ◌⊎◌, inl, inr, ℕ, ◌==◌, true, false, cond, List, Some, sym, ap, ◌∙◌, subst, arith}
 use Rattle.std.proofs.lemmas.Bool.{cases_eq}
 use Rattle.std.proofs.lemmas.Bool.Decides.{nat_tests}
-use Rattle.agglo_model.specs.PairOrder.{Threshold, Before, Reaches}
+use Rattle.agglo_model.specs.PairOrder.{Threshold, Reaches}
 use Rattle.agglo_model.specs.RegionGraph.{Region}
 use Rattle.mutual_merge.specs.declared.links.Link.{Link}
 use Rattle.mutual_merge.specs.Slots.{AreFree, IsFirstAt, IsFirstPairAt, IsLiveAt, nth_link, other_end}

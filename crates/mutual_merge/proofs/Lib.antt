@@ -17,10 +17,6 @@ pub mod KeptPlaces
 pub mod SameContacts
 pub mod TrimmedGraphs
 pub mod MadeRegions
-pub mod PartedGraphs
-pub mod UnitedGraphs
-pub mod PartPlaces
-pub mod UnitePlaces
 pub mod ClosedGraph
 pub mod LinkedStands
 mod SlotFirsts

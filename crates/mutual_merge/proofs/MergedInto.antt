@@ -1,5 +1,5 @@
 -- Merges of pairs of slots, one after another.
-use Rattle.std.proofs.Common.{◌≡◌, ◌⊎◌, inl, inr, ℕ, Bool, List, [], ◌∷◌, ◌++◌, append_assoc, refl, sym, ap, ◌∙◌, ◌≤◌, ◌^◌, length, length-set, subst, arith}
+use Rattle.std.proofs.Common.{inl, inr, ℕ, Bool, List, [], ◌∷◌, ◌++◌, append_assoc, sym, ap, ◌∙◌, ◌≤◌, ◌^◌, length, length-set, subst, arith}
 use Rattle.agglo_model.specs.PairOrder.{Threshold}
 use Rattle.agglo_model.specs.Greedy.{Merge}
 use Rattle.agglo_model.specs.RegionGraph.{Region, RegionGraph}
@@ -7,9 +7,15 @@ use Rattle.agglo_model.specs.Settling.{IsGraphAfter, IsReciprocalEdge, Settles, 
 use Rattle.mutual_merge.specs.declared.links.Link.{Link}
 use Rattle.mutual_merge.specs.Linked.{region_at}
 use Rattle.mutual_merge.specs.Rounds.{Carries}
-use Rattle.mutual_merge.specs.Slots.{AllStays, HasMergedPair, HasNoted, HasNotedPair, HaveMergedInto, IsFirstPairAt, IsReciprocalAt, Stands, both_regions, merge_at, nth_link}
+use Rattle.mutual_merge.specs.Slots.{HasMergedPair, HasNotedPair, HaveMergedInto, IsFirstPairAt, IsReciprocalAt, both_regions}
 use Rattle.mutual_merge.proofs.GatheredSlots.{gathered}
 use Rattle.mutual_merge.proofs.TakenSlots.{moved-fewer, taken_over}
+
+-- merges that are carried, after others
+pub carries_on : (t : Threshold) (faces : ℕ) (start mid last : RegionGraph) (merges others : List Merge)
+    → Carries t faces start merges mid → Carries t faces mid others last → Carries t faces start (merges ++ others) last
+carries_on t faces start mid last merges others one other more left settles =
+    subst (λ ms. Settles t faces start ms left) (sym (append_assoc merges others more)) (one (others ++ more) left (other more left settles))
 
 -- one more merge is carried
 carries_more : (t : Threshold) (faces : ℕ) (start graph next : RegionGraph) (merges : List Merge) (merge : Merge)

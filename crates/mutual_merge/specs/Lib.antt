@@ -4,7 +4,6 @@ pub mod Pairs
 pub mod Merged
 pub mod Left
 pub mod Trimmed
-pub mod Parts
 pub mod Rounds
 pub mod Slots
 pub mod Moved

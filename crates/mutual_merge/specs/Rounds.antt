@@ -1,14 +1,11 @@
 -- What rounds of merges make of a graph.
-use Rattle.std.specs.Prelude.{ℕ, ◌≡◌, ◌≢◌, ◌≤◌, ◌++◌, Bool, List}
+use Rattle.std.specs.Prelude.{ℕ, ◌≤◌, ◌++◌, List}
 use Rattle.agglo_model.specs.PairOrder.{Threshold}
 use Rattle.agglo_model.specs.Greedy.{Merge}
 use Rattle.agglo_model.specs.RegionGraph.{Region, GraphEdge, RegionGraph}
 use Rattle.agglo_model.specs.Settling.{IsReciprocalEdge, Settles}
 use Rattle.mutual_merge.specs.declared.links.Link.{Link}
-use Rattle.mutual_merge.specs.declared.settling.Parting.{Parting}
-use Rattle.mutual_merge.specs.declared.settling.Parting.TheVariants.{WhereMostRest}
 use Rattle.mutual_merge.specs.Linked.{AreLinked, graph_of, link_edges}
-use Rattle.mutual_merge.specs.Parts.{MayRest}
 
 -- These merges of the graph `start` make another one of it: whatever settles that one settles `start` after them.
 abbrev pub Carries : Threshold → ℕ → RegionGraph → List Merge → RegionGraph → Type 0
@@ -24,9 +21,3 @@ pub record HasMerged (t : Threshold) (faces : ℕ) (start : List Region) (start_
 -- no pair is reciprocal
 abbrev pub IsSettled : Threshold → ℕ → List Region → List Link → Type 0
 IsSettled t faces regions links = (e : GraphEdge) → ¬ (IsReciprocalEdge t faces (graph_of regions links) e)
-
--- a part may be made of the graph, where that was asked for: some face holds regions back, and those that it holds back rest
-pub record MayBeParted (faces : ℕ) (parting : Parting) (regions : List Region) (rest : List Bool) : Type 0 where
-  pub asked : parting ≡ WhereMostRest
-  pub some_face : faces ≢ 0
-  pub rest_is : MayRest faces regions rest

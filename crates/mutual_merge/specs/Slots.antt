@@ -1,7 +1,7 @@
 -- A region graph while merges are made in it. Each region has a slot, which is closed when its region is taken into
 -- another one; links join slots, in either order. A link from a slot to itself is gone, and says nothing.
 use Rattle.std.specs.Prelude.{◌≡◌, ◌≢◌, ℕ, ◌<◌, ◌≤◌, ◌⊎◌, ◌↔◌, ◌==◌, ◌+◌, ◌*◌, ◌^◌, Bool, true, false, cond, List, [], ◌∷◌, ◌++◌, All, Contains, Option, Some, None, length, sum_by, slice_index_or, slice_set, ◌/◌, bit_and, bit_or, min, max}
-use Rattle.agglo_model.specs.PairOrder.{Contact, Threshold, Before, Reaches, most_edges}
+use Rattle.agglo_model.specs.PairOrder.{Threshold, Before, Reaches, most_edges}
 use Rattle.agglo_model.specs.Greedy.{Merge}
 use Rattle.agglo_model.specs.RegionGraph.{Region, RegionGraph, IsGraph, contact_in, grid_edges}
 use Rattle.mutual_merge.specs.declared.links.Link.{Link}

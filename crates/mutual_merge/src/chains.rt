@@ -47,16 +47,18 @@ pub fn merge_chains(
     threshold: &Threshold,
     frozen: u8,
 ) -> Result<Chained, Memory>
-    requires linked { AreLinked graph.regions.items graph.links.items }
-    requires few { length graph.regions.items < 2 ^ 32 }
+    requires { AreLinked graph.regions.items graph.links.items }
     ensures { IfOk result (λ chained. HasMerged threshold.now frozen graph.regions.items graph.links.items
         chained.merges.items chained.graph.regions.items chained.graph.links.items) }
 {
-    let count = graph.regions.len();
+    let Ok(count) = u32::try_from(graph.regions.len()) else {
+        let merges = Vec::new(alloc);
+        return Ok(Chained { graph, merges });
+    };
     let mut slots = Slots::open(alloc, graph)?;
-    let mut merging = Merging::new(alloc, count)?;
+    let mut merging = Merging::new(alloc, count as usize)?;
     for slot in 0..count {
-        merging.follow(&mut slots, slot as u32, threshold, frozen)?;
+        merging.follow(&mut slots, slot, threshold, frozen)?;
     }
     let graph = close(alloc, &slots.regions, &slots.closed, &slots.links)?;
     Ok(Chained {

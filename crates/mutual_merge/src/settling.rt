@@ -1,16 +1,15 @@
-ghost use Rattle.std.specs.Prelude.{◌≡◌, ◌≤◌, IfOk, IfSome, IsNone};
+ghost use Rattle.std.specs.Prelude.{◌≡◌, ◌≤◌, IfOk};
 ghost use Rattle.agglo_model.specs.RegionGraph.{grid_edges};
 ghost use Rattle.agglo_model.specs.Settling.{Settles};
 ghost use Rattle.mutual_merge.specs.Linked.{AreLinked, graph_of};
-ghost use Rattle.mutual_merge.specs.Rounds.{HasMerged, IsSettled, MayBeParted};
+ghost use Rattle.mutual_merge.specs.Rounds.{HasMerged, IsSettled};
 
+use crate::chains::{Chained, merge_chains};
 use crate::firsts::first_contacts;
 use crate::links::link_all;
 use crate::merging::{LinkedGraph, merge_mates};
 use crate::pairs::{note_merges, pair_up};
-use crate::parts::{part, unite};
 use crate::residue::leave;
-use crate::resting::find_resting;
 use crate::trimming::trim;
 use agglo_model::Memory;
 use mean_fraction::Threshold;
@@ -27,24 +26,6 @@ pub struct Settled {
     pub merges: Vec<Merge>,
 }
 
-/// A graph in which merges were made, and these merges. Where a part of it is to be settled by itself, `resting`
-/// says which regions are not in that; else no pair is reciprocal.
-#[derive(Drop)]
-struct Progress {
-    graph: LinkedGraph,
-    merges: Vec<Merge>,
-    resting: Option<Vec<bool>>,
-}
-
-/// Whether a part of a graph may be settled by itself.
-#[derive(Clone, Copy, PartialEq)]
-enum Parting {
-    /// All regions are looked at in each round.
-    Never,
-    /// The others are settled by themselves where most contacts are between regions that rest.
-    WhereMostRest,
-}
-
 /// Merges the reciprocal pairs of a graph until there is none: two regions whose contact reaches the threshold
 /// and comes before all others at both, by its mean affinity. Regions that touch one of the faces `frozen` take
 /// no part, since their fate is decided by a node above; the bits are those of `Region`.
@@ -52,8 +33,8 @@ enum Parting {
 /// This is agglomeration by mean affinity with delayed decisions, after Lu, Zlateski and Seung, Large-scale image
 /// segmentation based on distributed clustering algorithms, arXiv 2106.10795 (2021).
 ///
-/// Where most contacts are between regions that wait for one that is held back, the others are settled by
-/// themselves; then all are looked at once more.
+/// Nearly all pairs are merged along chains of neighbours. What chains leave, as where two contacts have the same mean
+/// and the same tie, is merged in rounds, each of which looks at the whole graph that is left.
 ///
 /// Fails for want of memory alone; the graph is given up then.
 pub fn settle(
@@ -66,44 +47,13 @@ pub fn settle(
     ensures fewer { IfOk result (λ settled. grid_edges settled.residue ≤ grid_edges graph) }
 {
     let start = linked(alloc, graph)?;
-    let Progress {
-        graph,
-        mut merges,
-        resting,
-    } = merge_rounds(alloc, start, threshold, frozen, Parting::WhereMostRest)?;
-    let Some(rest) = resting else {
-        let residue = leave(alloc, graph, threshold, frozen)?;
-        return Ok(Settled { residue, merges });
-    };
-    let parts = part(alloc, &graph, &rest, frozen)?;
-    let awake = settle_whole(alloc, parts.awake, threshold, frozen)?;
-    let united = unite(alloc, parts.aside, awake.residue, frozen)?;
-    let last = settle_whole(alloc, united, threshold, frozen)?;
-    merges.extend_from_slice(&awake.merges)?;
-    merges.extend_from_slice(&last.merges)?;
-    Ok(Settled {
-        residue: last.residue,
-        merges,
-    })
-}
-
-/// The same, of all regions in each round.
-fn settle_whole(
-    alloc: Global,
-    graph: Graph,
-    threshold: &Threshold,
-    frozen: u8,
-) -> Result<Settled, Memory>
-    ensures settles { IfOk result (λ settled. Settles threshold.now frozen graph settled.merges.items settled.residue) }
-    ensures fewer { IfOk result (λ settled. grid_edges settled.residue ≤ grid_edges graph) }
-{
-    let start = linked(alloc, graph)?;
-    let progress = merge_rounds(alloc, start, threshold, frozen, Parting::Never)?;
-    let residue = leave(alloc, progress.graph, threshold, frozen)?;
-    Ok(Settled {
-        residue,
-        merges: progress.merges,
-    })
+    let trimmed = trim(alloc, &start, threshold, frozen)?;
+    drop(start);
+    let Chained { graph, mut merges } = merge_chains(alloc, trimmed, threshold, frozen)?;
+    let swept = merge_rounds(alloc, graph, threshold, frozen)?;
+    merges.extend_from_slice(&swept.merges)?;
+    let residue = leave(alloc, swept.graph, threshold, frozen)?;
+    Ok(Settled { residue, merges })
 }
 
 /// The graph with links in the place of its edges, which are given up.
@@ -119,22 +69,18 @@ fn linked(alloc: Global, graph: Graph) -> Result<LinkedGraph, Memory>
     })
 }
 
-/// Merges reciprocal pairs in rounds until there is none, or until a part is to be settled by itself. Regions that
-/// no merge takes any more are let go before each round, so that a round looks at the others alone.
+/// Merges reciprocal pairs in rounds until there is none. Regions that no merge takes any more are let go before each
+/// round, so that a round looks at the others alone.
 fn merge_rounds(
     alloc: Global,
     start: LinkedGraph,
     threshold: &Threshold,
     frozen: u8,
-    parting: Parting,
-) -> Result<Progress, Memory>
+) -> Result<Chained, Memory>
     requires { AreLinked start.regions.items start.links.items }
-    ensures merged { IfOk result (λ progress. HasMerged threshold.now frozen start.regions.items start.links.items
-        progress.merges.items progress.graph.regions.items progress.graph.links.items) }
-    ensures settled { IfOk result (λ progress. IsNone progress.resting → IsSettled threshold.now frozen
-        progress.graph.regions.items progress.graph.links.items) }
-    ensures parted { IfOk result (λ progress. IfSome progress.resting (λ rest.
-        MayBeParted frozen parting progress.graph.regions.items rest.items)) }
+    ensures merged { IfOk result (λ swept. HasMerged threshold.now frozen start.regions.items start.links.items
+        swept.merges.items swept.graph.regions.items swept.graph.links.items) }
+    ensures settled { IfOk result (λ swept. IsSettled threshold.now frozen swept.graph.regions.items swept.graph.links.items) }
 {
     let mut graph = start;
     let mut merges = Vec::new(alloc);
@@ -143,22 +89,7 @@ fn merge_rounds(
         let firsts = first_contacts(alloc, &graph.links, graph.regions.len())?;
         let pairing = pair_up(alloc, &graph, &firsts, threshold, frozen)?;
         if pairing.pairs.is_empty() {
-            let resting = None;
-            return Ok(Progress {
-                graph,
-                merges,
-                resting,
-            });
-        }
-        if parting == Parting::WhereMostRest {
-            let resting = find_resting(alloc, &graph, &firsts, &pairing.pairs, frozen)?;
-            if resting.is_some() {
-                return Ok(Progress {
-                    graph,
-                    merges,
-                    resting,
-                });
-            }
+            return Ok(Chained { graph, merges });
         }
         note_merges(&mut merges, &graph.regions, &pairing.pairs)?;
         graph = merge_mates(alloc, &graph.regions, &graph.links, &pairing.mates)?;

@@ -1,10 +1,10 @@
-use Rattle.std.proofs.Common.{◌≡◌, ◌++◌, [], ◌≤◌, ◌^◌, ℕ, Bool, false, List, length, replicate, refl, sym, ap, ◌∙◌, subst, arith}
+use Rattle.std.proofs.Common.{◌≡◌, [], ◌≤◌, ◌^◌, Bool, false, List, length, replicate, sym, ap, ◌∙◌, subst, arith}
 use Rattle.std.proofs.lemmas.List.{length-replicate}
 use Rattle.agglo_model.specs.Greedy.{Merge}
-use Rattle.agglo_model.specs.RegionGraph.{Region, RegionGraph, grid_edges}
+use Rattle.agglo_model.specs.RegionGraph.{Region, grid_edges}
 use Rattle.mutual_merge.specs.declared.links.Link.{Link}
 use Rattle.mutual_merge.specs.Linked.{graph_of, link_edges, name_at}
-use Rattle.mutual_merge.specs.Rounds.{Carries, HasMerged}
+use Rattle.mutual_merge.specs.Rounds.{Carries}
 use Rattle.mutual_merge.specs.Slots.{AreListed, AreListedSlots, AreSlotLinks, AreSlots, HaveMergedInto, Stands, live_edges}
 use Rattle.mutual_merge.proofs.LinkedEdges.{same_sums}
 use Rattle.mutual_merge.proofs.LinkedStands.{linked_stands}
@@ -24,7 +24,7 @@ listed_at_start c =
     record {
       one_each = ap length e.closed ∙ length-replicate n false ∙ as_many;
       links_are = subst (λ m. AreSlotLinks m c.in_ok-slots.slots.links.items) as_many
-          (subst (λ (ls : List Link). AreSlotLinks n ls) (sym e.links) (AreSlotLinks-from_links n c.args.graph.links.items c.requires.linked.links_are));
+          (subst (λ (ls : List Link). AreSlotLinks n ls) (sym e.links) (AreSlotLinks-from_links n c.args.graph.links.items c.requires.links_are));
       listed = subst (λ m. AreListed m c.in_ok-slots.slots.links.items c.in_ok-slots.slots.lists) as_many
           (subst (λ (ls : List Link). AreListed n ls c.in_ok-slots.slots.lists) (sym e.links) e.listed);
       marked = e.marked ∙ as_many;
@@ -40,16 +40,16 @@ loop-slot-init c =
     let e = c.in_ok-slots.ensures in (
       listed_at_start c,
       subst (λ (ms : List Merge). HaveMergedInto t c.args.frozen start ms slots.regions.items slots.closed.items slots.links.items) (sym c.in_ok-merging.ensures)
-      (subst (λ (rs : List Region). HaveMergedInto t c.args.frozen start [] rs slots.closed.items slots.links.items) (sym e.regions)
-      (subst (λ (bs : List Bool). HaveMergedInto t c.args.frozen start [] regions bs slots.links.items) (sym e.closed)
-      (subst (λ (ls : List Link). HaveMergedInto t c.args.frozen start [] regions (replicate (length regions) false) ls) (sym e.links)
-      (record {
-        graph = start;
-        carries = λ more left settles. settles;
-        stands = linked_stands regions links c.requires.linked;
-        few = c.requires.linked.fit;
-        fewer = subst (λ n. live_edges links ≤ n) (sym (grid_edges_are regions links)) (live_edges-le links);
-      })))),
+          (subst (λ (rs : List Region). HaveMergedInto t c.args.frozen start [] rs slots.closed.items slots.links.items) (sym e.regions)
+          (subst (λ (bs : List Bool). HaveMergedInto t c.args.frozen start [] regions bs slots.links.items) (sym e.closed)
+          (subst (λ (ls : List Link). HaveMergedInto t c.args.frozen start [] regions (replicate (length regions) false) ls) (sym e.links)
+          (record {
+            graph = start;
+            carries = λ more left settles. settles;
+            stands = linked_stands regions links c.requires;
+            few = c.requires.fit;
+            fewer = subst (λ n. live_edges links ≤ n) (sym (grid_edges_are regions links)) (live_edges-le links);
+          })))),
     )
 
 pub close-requires-clause-fit : goal.close-requires-clause-fit

@@ -45,15 +45,12 @@ pub returns-then-is_empty-clause-merged : goal.returns-then-is_empty-clause-merg
 returns-then-is_empty-clause-merged c = merged_so_far (goal.at.returns-then-is_empty-clause-merged c).After-is_empty
 
 pub returns-then-is_empty-clause-settled : goal.returns-then-is_empty-clause-settled
-returns-then-is_empty-clause-settled c none_resting =
+returns-then-is_empty-clause-settled c =
     let pairing = pairing_is (goal.at.returns-then-is_empty-clause-settled c).After-is_empty in
     let pairs = c.in_ok-pairing.pairing.pairs in
     let none : length pairs.items ≡ 0 = sym pairs.ok.0 ∙ is_zero pairs.len c.if-is_empty.ensures in
     none_reciprocal c.args.threshold.now c.args.frozen c.in_ok-graph.graph.regions.items c.in_ok-graph.graph.links.items
     c.in_ok-pairing.pairing.mates.items pairs.items c.in_ok-graph.ensures.linked pairing none
-
-pub returns-then-is_some-clause-merged : goal.returns-then-is_some-clause-merged
-returns-then-is_some-clause-merged c = merged_so_far (goal.at.returns-then-is_some-clause-merged c).After-is_empty
 
 merged_is : (c : In_ok-graph-2) → AreMerged c.in_ok-graph.graph.regions.items c.in_ok-graph.graph.links.items
     c.in_ok-pairing.pairing.mates.items c.in_ok-graph-2.graph.regions.items c.in_ok-graph-2.graph.links.items

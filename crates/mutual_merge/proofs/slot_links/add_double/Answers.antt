@@ -1,6 +1,5 @@
-use Rattle.std.proofs.Common.{rules, ◌≡◌, ◌≢◌, ◌<◌, ◌+◌, ◌≤◌, ap, sym, subst, set, length, arith}
-use Rattle.agglo_model.specs.PairOrder.{most_edges}
-use Rattle.mutual_merge.specs.Slots.{AreGathered, IsLive, Joins}
+use Rattle.std.proofs.Common.{rules, sym, subst, set}
+use Rattle.mutual_merge.specs.Slots.{AreGathered, Joins}
 use Rattle.mutual_merge.proofs.SlotFirsts.{read_link}
 use Rattle.mutual_merge.proofs.GatheredLinks.{AreDoubles, doubles_within, gathered_double}
 use Rattle.mutual_merge.proofs.slot_links.add_double.Goals as goal

@@ -1,8 +1,6 @@
-use Rattle.std.proofs.Common.{ℕ, ◌<◌, ◌≤◌, ◌/◌, List, length, get_or, sym, subst, arith}
-use Rattle.std.specs.Prelude.{All}
-use Rattle.agglo_model.specs.PairOrder.{most_edges}
+use Rattle.std.proofs.Common.{◌<◌, ◌/◌, List, length, get_or, sym, subst, arith}
 use Rattle.mutual_merge.specs.declared.links.Link.{Link}
-use Rattle.mutual_merge.specs.Slots.{AreGathered, IsSlotLink}
+use Rattle.mutual_merge.specs.Slots.{AreGathered}
 use Rattle.mutual_merge.proofs.SlotFirsts.{other_inside, slot_link_at}
 use Rattle.mutual_merge.proofs.GatheredLinks.{gathered_none, gathered_on}
 use Rattle.mutual_merge.proofs.slot_links.add_up.Goals as goal

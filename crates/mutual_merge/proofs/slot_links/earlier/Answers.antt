@@ -1,4 +1,4 @@
-use Rattle.std.proofs.Common.{rules, ◌≡◌, ◌<◌, length, sym, subst}
+use Rattle.std.proofs.Common.{rules, ◌<◌, length, sym, subst}
 use Rattle.std.specs.Prelude.{IfSome}
 use Rattle.agglo_model.specs.PairOrder.{Before}
 use Rattle.mutual_merge.specs.declared.links.Link.{Link}

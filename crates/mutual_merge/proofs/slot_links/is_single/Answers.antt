@@ -1,4 +1,4 @@
-use Rattle.std.proofs.Common.{rules, ◌≡◌, ◌≢◌, ◌⊎◌, inl, inr, ◌/◌, ℕ, List, sym, subst, true≢false, take, get_or}
+use Rattle.std.proofs.Common.{◌≢◌, inl, inr, ◌/◌, ℕ, List, sym, subst, true≢false, take, get_or}
 use Rattle.std.specs.Prelude.{Contains, IsTrue}
 use Rattle.std.proofs.lemmas.List.{take_all, take_more}
 use Rattle.std.proofs.lemmas.List.Elements.{Contains-push_cases}

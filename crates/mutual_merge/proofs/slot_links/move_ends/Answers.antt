@@ -1,8 +1,7 @@
 use Rattle.std.proofs.Common.{ℕ, ◌<◌, ◌/◌, ◌∙◌, List, [], ◌∷◌, ◌++◌, length, refl, sym, ap, subst, get_or, set, take}
 use Rattle.std.proofs.lemmas.List.{take_all, take_more}
-use Rattle.std.proofs.lemmas.List.Elements.{All-get_or}
 use Rattle.mutual_merge.specs.declared.links.Link.{Link}
-use Rattle.mutual_merge.specs.Slots.{HaveMovedEndsOf, moved_link, nth_link}
+use Rattle.mutual_merge.specs.Slots.{HaveMovedEndsOf, moved_link}
 use Rattle.mutual_merge.proofs.SlotFirsts.{read_link}
 use Rattle.mutual_merge.proofs.MovedEnds.{moved_none, moved_more}
 use Rattle.mutual_merge.proofs.slot_links.move_ends.Goals as goal

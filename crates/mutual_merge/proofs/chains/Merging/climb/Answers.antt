@@ -4,7 +4,7 @@ use Rattle.agglo_model.specs.RegionGraph.{Region}
 use Rattle.mutual_merge.specs.declared.links.Link.{Link}
 use Rattle.mutual_merge.specs.Slots.{AreFree, IsFirstAt, nth_link, other_end}
 use Rattle.mutual_merge.proofs.SlotFirsts.{read_link}
-use Rattle.mutual_merge.proofs.FirstPair.{LeadsBack, first_pair}
+use Rattle.mutual_merge.proofs.FirstPair.{first_pair}
 use Rattle.mutual_merge.proofs.chains.Merging.climb.Goals as goal
 
 pub returns-then-eq-clause-end : goal.returns-then-eq-clause-end

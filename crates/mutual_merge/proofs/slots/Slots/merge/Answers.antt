@@ -1,9 +1,9 @@
-use Rattle.std.proofs.Common.{rules, ◌≡◌, ◌⊎◌, inl, inr, ℕ, ◌/◌, Bool, List, refl, sym, ap, ◌∙◌, subst}
+use Rattle.std.proofs.Common.{rules, ◌≡◌, inl, inr, ℕ, ◌/◌, Bool, List, refl, sym, ap, ◌∙◌, subst}
 use Rattle.std.specs.Prelude.{Contains, IsTrue}
 use Rattle.agglo_model.specs.RegionGraph.{Region}
 use Rattle.mutual_merge.specs.declared.links.Link.{Link}
 use Rattle.mutual_merge.specs.declared.slots.Slots.{Slots}
-use Rattle.mutual_merge.specs.Slots.{Covers, HasMergedPair, HasTakenOver, IsLive, Joins, merge_at, nth_link}
+use Rattle.mutual_merge.specs.Slots.{HasMergedPair, HasTakenOver, Joins, merge_at, nth_link}
 use Rattle.mutual_merge.proofs.SlotFirsts.{read_link}
 use Rattle.mutual_merge.proofs.MergedPairs.{IsMergedBy, merged_pair}
 use Rattle.mutual_merge.proofs.slots.Slots.merge.Goals as goal

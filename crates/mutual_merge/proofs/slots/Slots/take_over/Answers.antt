@@ -1,10 +1,9 @@
-use Rattle.std.proofs.Common.{◌≡◌, ◌<◌, ◌++◌, [], ℕ, List, Bool, true, length, length-set, get_or, set, take, refl, drop, sym, ap, ◌∙◌, subst, arith}
+use Rattle.std.proofs.Common.{◌≡◌, ◌<◌, ◌++◌, ℕ, List, true, length, length-set, get_or, set, take, refl, drop, sym, ap, ◌∙◌, subst}
 use Rattle.std.proofs.lemmas.List.{get_or_read}
-use Rattle.index_lists.specs.LinkedLists.{LinkedLists, list_at, with_list}
 use Rattle.agglo_model.specs.RegionGraph.{Region}
 use Rattle.mutual_merge.specs.declared.links.Link.{Link}
 use Rattle.mutual_merge.specs.Linked.{region_at}
-use Rattle.mutual_merge.specs.Slots.{AreGathered, AreListed, AreListedSlots, AreSlotLinks, HasTakenOver, HaveMovedEnds, HaveMovedEndsOf, both_regions}
+use Rattle.mutual_merge.specs.Slots.{AreGathered, AreListed, AreSlotLinks, HaveMovedEnds, HaveMovedEndsOf, both_regions}
 use Rattle.mutual_merge.proofs.ListedSlots.{gathered_links_are, listed_gathered, listed_moved, moved_all, moved_links_are}
 use Rattle.mutual_merge.proofs.WrittenBack.{written_back}
 use Rattle.mutual_merge.proofs.slots.Slots.take_over.Goals as goal
