@@ -1,5 +1,6 @@
 mod cases;
 mod graphs;
+mod lists;
 mod plain_basins;
 mod plain_grid;
 mod plain_merging;
