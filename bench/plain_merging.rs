@@ -83,6 +83,9 @@ struct Merging {
     hubs: Hubs,
     /// For some places an edge. Nothing is known of it, so it is looked at before it is relied on.
     marks: Vec<u32>,
+    /// Regions of which each leads to the next by its first edge, and others to begin with.
+    path: Vec<u32>,
+    work: Vec<u32>,
     merges: Vec<Merge>,
 }
 
@@ -99,6 +102,8 @@ impl Merging {
             lists: lists_of(&edges, count),
             hubs: Hubs::new(count),
             marks: vec![0; count],
+            path: Vec::new(),
+            work: Vec::new(),
             merges: Vec::new(),
             regions,
             edges,
@@ -109,30 +114,33 @@ impl Merging {
         merging
     }
 
-    /// Merges pairs from each region on, in turn. So many steps are enough, since a step adds a region to the path, or
-    /// takes one off that is done or waits, or merges two.
+    /// Merges pairs from each region on, in turn. So many steps are enough: see `step`.
     fn merge_most(&mut self) {
-        let mut path = Vec::new();
         let mut steps = 8 * self.regions.len();
         for place in 0..self.regions.len() as u32 {
-            path.push(place);
-            steps = self.merge_along(&mut path, steps);
+            self.work.push(place);
+            steps = self.work_off(steps);
         }
     }
 
-    /// Goes on from the last region of the path until the path is empty, or all steps are taken; answers how many are
-    /// left.
-    fn merge_along(&mut self, path: &mut Vec<u32>, steps: usize) -> usize {
+    /// Goes on from the last region of the path, or where it is empty from one that is left to do, until there is none or
+    /// all steps are taken. Answers how many are left.
+    fn work_off(&mut self, steps: usize) -> usize {
         for left in (0..steps).rev() {
-            let Some(last) = path.pop() else { return left + 1 };
-            self.step(path, last);
+            let Some(last) = self.path.pop().or_else(|| self.work.pop()) else { return left + 1 };
+            self.step(last);
         }
         0
     }
 
-    /// Goes on from a region that was last on the path: on to the partner of its first edge, where a stronger edge
-    /// leads on from there, and else it is merged with that partner.
-    fn step(&mut self, path: &mut Vec<u32>, last: u32) {
+    /// Goes on from a region that was last on the path: to the partner of its first edge, where a stronger edge leads on
+    /// from there, and else it is merged with that partner. It is done with where it has no edge that reaches, and where
+    /// it waits.
+    ///
+    /// First edges rise along the path, and stay the first ones whatever is merged elsewhere, so a region comes on the
+    /// path once between two merges that it takes part in. With n regions there are at most 2n such times; in each a
+    /// region is begun with at most once, added once, and done with once, and there are n merges: 7n steps.
+    fn step(&mut self, last: u32) {
         if self.waits[last as usize] {
             return;
         }
@@ -144,10 +152,14 @@ impl Merging {
         }
         let next = self.first(partner).unwrap_or(edge);
         if self.contact(next).comes_before(&self.contact(edge)) {
-            path.extend([last, partner]);
-        } else {
-            path.push(self.merge(edge));
+            self.path.extend([last, partner]);
+            return;
         }
+        if self.path.last() == Some(&partner) {
+            self.path.pop();
+        }
+        let merged = self.merge(edge);
+        self.work.push(merged);
     }
 
     fn contact(&self, edge: u32) -> Contact {
