@@ -178,12 +178,13 @@ fn graph_by_definition(site: Site, cell: &Cell) -> Named {
 fn graphs_of_boxes_are_those_of_the_definition() {
     let mut random = Random(4);
     for turn in 0..300 {
-        let axes = [1 + random.below(if turn % 4 == 0 { 200 } else { 9 }) as usize, 1 + random.below(9) as usize, 1 + random.below(9) as usize];
+        let longest = if turn % 4 == 0 { 200 } else { 9 };
+        let axes = [longest, 9, 9].map(|most| 1 + random.below(most) as usize);
         let voxels: usize = axes.iter().product();
-        let (names, start) = (1 + random.below(if turn % 2 == 0 { 4 } else { 400 }), random.below(1000) as u32);
+        let (names, start) = (1 + random.below(if turn % 3 == 0 { 4 } else { 400 }), random.below(1000) as u32);
         let label = |random: &mut Random| if random.below(6) == 0 { 0 } else { start + 1 + random.below(names) as u32 };
         let labels: Vec<u32> = (0..voxels).map(|_| label(&mut random)).collect();
-        let body: Vec<u8> = (0..3 * voxels).map(|_| random.below(256) as u8).collect();
+        let body: Vec<u8> = (0..3 * voxels).map(|_| (random.below(4) * 85) as u8).collect();
         let low = axes.map(|length| random.below(length as u64) as usize);
         let high = [0, 1, 2].map(|axis| low[axis] + 1 + random.below((axes[axis] - low[axis]) as u64) as usize);
         let (site, cell) = (Site { axes, body: &body, labels: &labels }, Cell { low, high });

@@ -218,7 +218,6 @@ impl Merging {
         let region = &mut self.regions[into as usize];
         let (survivor, absorbed) = (region.name.min(given.name), region.name.max(given.name));
         *region = Region { name: survivor, faces: region.faces | given.faces };
-        self.regions[from as usize].name = absorbed;
         self.merges.push(Merge { survivor, absorbed, contact: self.contact(edge) });
     }
 
