@@ -18,9 +18,14 @@ def built_agglo():
 def built_plain(folder):
     """The plain Rust program, which is built in this folder."""
     plain = os.path.join(folder, "plain")
-    subprocess.run(["rustc", "-C", "opt-level=3", "--edition", "2021", "-o", plain,
+    subprocess.run(["rustc", "-C", "opt-level=3", "-C", "target-cpu=x86-64-v2", "--edition", "2021", "-o", plain,
                     os.path.join(HERE, "plain.rs")], check=True)
     return plain
+
+
+def make_volume(plain, kind, side, path):
+    """Has the plain program make a cube of a kind: noise, cells, smooth or rough."""
+    subprocess.run([plain, "make", kind, str(side), path], check=True)
 
 
 def segment_words(agglo, volume, labels, tree, chunk, workers, merge=MERGE):

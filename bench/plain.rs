@@ -1,6 +1,16 @@
 //! A plain single-threaded program of the same work as agglo, written for speed and with nothing
 //! proved: the yardstick of the benchmark. It also makes the benchmark's volumes.
+//!
+//! `rustc --test` builds its tests in its place.
+#[cfg(test)]
+mod plain_checks;
+mod plain_contacts;
+mod plain_graph;
+mod plain_hubs;
+mod plain_merging;
+mod plain_rounds;
 mod plain_segment;
+mod plain_volumes;
 
 use std::env;
 use std::fs::File;
@@ -10,70 +20,32 @@ fn main() -> Result<()> {
     let words: Vec<String> = env::args().skip(1).collect();
     let words: Vec<&str> = words.iter().map(String::as_str).collect();
     match words.as_slice() {
-        ["noise", side, path] => write_volume(path, side.parse().unwrap(), noise),
-        ["cells", side, path] => write_volume(path, side.parse().unwrap(), cells),
+        ["make", kind, side, path] => {
+            let side = side.parse().unwrap();
+            write_volume(path, side, &plain_volumes::affinities(kind, side).unwrap_or_else(usage))
+        }
         ["basins", volume, labels, low] => basins(volume, labels, low.parse().unwrap()),
         [word @ ("segment" | "phases"), volume, labels, tree, low, merge] => {
             plain_segment::segment(volume, labels, tree, low.parse().unwrap(), merge, *word == "phases")
         }
-        _ => {
-            eprintln!("plain: noise|cells SIDE FILE, basins VOLUME LABELS LOW, or segment|phases VOLUME LABELS TREE LOW P/Q");
-            std::process::exit(2)
-        }
+        _ => usage(),
     }
 }
 
-/// A cube of this many voxels a side, whose bytes a function of the side makes.
-fn write_volume(path: &str, side: u32, bytes: fn(u32) -> Vec<u8>) -> Result<()> {
+fn usage<T>() -> T {
+    eprintln!("plain: make noise|cells|smooth|rough SIDE FILE, basins VOLUME LABELS LOW, or segment|phases VOLUME LABELS TREE LOW P/Q");
+    std::process::exit(2)
+}
+
+/// A cube of this many voxels a side with these affinities.
+fn write_volume(path: &str, side: u32, affinities: &[u8]) -> Result<()> {
     let mut file = BufWriter::new(File::create(path)?);
     file.write_all(b"AFFVOL01")?;
     for field in [side, side, side, 3, 0, 0] {
         file.write_all(&field.to_le_bytes())?;
     }
-    file.write_all(&bytes(side))?;
+    file.write_all(affinities)?;
     file.flush()
-}
-
-struct Random(u32);
-
-impl Random {
-    fn byte(&mut self) -> u8 {
-        self.0 = self.0.wrapping_mul(1664525).wrapping_add(1013904223);
-        (self.0 >> 24) as u8
-    }
-}
-
-/// Bytes without any structure.
-fn noise(side: u32) -> Vec<u8> {
-    let mut random = Random(1);
-    (0..3 * (side as usize).pow(3)).map(|_| random.byte()).collect()
-}
-
-/// Cells of about 16 voxels across with bright insides and dark boundaries, and a little noise.
-fn cells(side: u32) -> Vec<u8> {
-    const STEP: u32 = 16;
-    let grid = side / STEP + 1;
-    let mut random = Random(2);
-    let shifts: Vec<u32> = (0..3 * grid * grid * grid).map(|_| u32::from(random.byte()) % STEP).collect();
-    let inside = |axis: u32, at: [u32; 3]| {
-        let block = at.map(|c| c / STEP);
-        let seed = 3 * (block[0] + grid * (block[1] + grid * block[2])) + axis;
-        let shift = shifts[seed as usize];
-        let distance = (at[axis as usize] + shift) % STEP;
-        distance.min(STEP - distance)
-    };
-    let mut bytes = Vec::with_capacity(3 * (side as usize).pow(3));
-    for z in 0..side {
-        for y in 0..side {
-            for x in 0..side {
-                let near = (0..3).map(|axis| inside(axis, [x, y, z])).min().unwrap();
-                for _ in 0..3 {
-                    bytes.push((near * 28 + u32::from(random.byte()) / 10) as u8);
-                }
-            }
-        }
-    }
-    bytes
 }
 
 const STAY: u8 = 6;
