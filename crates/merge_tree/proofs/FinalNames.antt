@@ -3,14 +3,16 @@ use Rattle.std.proofs.Common.{◌≡◌, ◌≢◌, ℕ, ◌+◌, ◌<◌, ◌�
 use Rattle.std.specs.Prelude.{All}
 use Rattle.std.specs.List.{range_with_len}
 use Rattle.std.proofs.Math.Seq.{take-suc, drop-cons, set-append_seam, get_or-append_seam}
+use Rattle.std.proofs.lemmas.Bool.{cases_lt}
 use Rattle.std.proofs.lemmas.Bool.Decides.{nat_tests}
-use Rattle.std.proofs.lemmas.List.{map-id, map-append, length-map, length-take-le, length-set, get_or-set_same, get_or-set_other}
+use Rattle.std.proofs.lemmas.List.{get_or-map, map-id, map-append, length-map, length-take-le, length-set, get_or-set_same, get_or-set_other}
 use Rattle.std.proofs.lemmas.List.Elements.{All-set, All-get_or, All-more}
 use Rattle.std.proofs.lemmas.List.FromFn.{get_or-range_with_len, length-range_with_len}
 use Rattle.std.proofs.lemmas.Simd.{map-map}
 use Rattle.std.proofs.lemmas.Grind.{get_or_default_zero}
 use mathlib.Core.Path.{fun_ext}
 use Rattle.agglo_model.specs.Axes.{Axes, IsWithinLimits}
+use Rattle.agglo_model.specs.LabelMap.{AreLabels}
 use Rattle.agglo_model.specs.PairOrder.{Threshold}
 use Rattle.agglo_model.specs.Greedy.{Merge, after_merges}
 use Rattle.agglo_model.specs.MergeTree.{AreLawful}
@@ -160,3 +162,16 @@ lawful_names axes t merges limits lawful = λ k d below.
       survivor = omega (arith, names.ordered, names.in_range, limits.most_voxels);
       absorbed = omega (arith, names.in_range, limits.most_voxels);
     }
+
+-- labels that have their final names still fit
+pub renamed_fit : (labels names : List ℕ) → All (λ name. name ≤ 2 ^ 28) names → AreLabels labels
+    → AreLabels (map (final_label names) labels)
+renamed_fit labels names fit are = λ v lt.
+    let below : v < length labels = subst (λ n. v < n) (length-map labels (final_label names)) lt in
+    let x : ℕ = get_or labels v 0 in
+    let is : get_or (map (final_label names) labels) v 0 ≡ final_label names x = get_or-map (final_label names) labels v 0 0 below in
+    let small : final_label names x ≤ 2 ^ 28 = elim (cases_lt x (length names)) [
+      | inl inside ↦ subst (λ n. n ≤ 2 ^ 28) (sym (label_inside names x inside)) (fit x 0 inside)
+      | inr outside ↦ subst (λ n. n ≤ 2 ^ 28) (sym (label_outside names x outside)) (are v below)
+    ] in
+    subst (λ n. n ≤ 2 ^ 28) (sym is) small

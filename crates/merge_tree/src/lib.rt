@@ -19,7 +19,7 @@ mod tree_records;
 pub use label_file::put_labels;
 pub use merge::Merge;
 pub use order::{in_order, sort_by_threads};
-pub use renaming::apply;
+pub use renaming::{apply, apply_by_threads};
 pub use tree::Tree;
 pub use tree_fault::TreeFault;
 pub use tree_file::put_tree;

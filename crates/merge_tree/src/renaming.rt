@@ -5,8 +5,10 @@ ghost use Rattle.merge_tree.specs.Renaming.{HasSmallNames, NamesBelow, HoldsFina
 
 use crate::merge::Merge;
 use agglo_model::Memory;
+use rayon::prelude::*;
 use seg_base::Labels;
 use std::alloc::Global;
+use std::thread::Threads;
 
 /// Renames the labels by each merge in turn: where the absorbed name stood, the survivor stands.
 /// Where there is no memory, the labels stay as they were.
@@ -19,6 +21,23 @@ pub fn apply(alloc: Global, labels: &mut Labels, merges: &[Merge]) -> Result<(),
     let names = final_names(alloc, merges)?;
     rename(labels, &names);
     Ok(())
+}
+
+/// The labels renamed as by `apply`, in several threads. Where there is no memory, they are given up.
+pub fn apply_by_threads<R: Threads + Sync>(
+    rt: &R,
+    alloc: Global,
+    labels: Labels,
+    merges: &[Merge],
+) -> Result<Labels, Memory>
+    requires small { All HasSmallNames merges.now }
+    ensures { IfOk result (λ renamed. renamed ≡ record labels { labels = after_merges labels.labels merges.now }) }
+{
+    let names = final_names(alloc, merges)?;
+    let dims = *labels.dims();
+    let mut list = labels.into_list();
+    rename_by_threads(rt, &mut list, &names);
+    Ok(Labels::of(&dims, list))
 }
 
 /// The name that each name ends as, for all names up to the greatest that a merge has. The merges are
@@ -66,6 +85,21 @@ fn rename(labels: &mut Labels, names: &[u32])
         let name = label_in(names, labels.get(voxel));
         labels.set(voxel, name);
     }
+}
+
+/// Gives each label the name that the list has for it, in several threads.
+fn rename_by_threads<R: Threads + Sync>(rt: &R, labels: &mut [u32], names: &[u32])
+    ensures { labels.new ≡ map (final_label names.now) labels.old }
+{
+    par_for_each_mut(
+        rt,
+        labels,
+        |_: usize, label: &mut u32|
+            ensures { label.new ≡ final_label names.entry.now label.old }
+        {
+            *label = label_in(names, *label);
+        },
+    );
 }
 
 /// The name that the list has for this label, or the label where it has none.

@@ -71,6 +71,14 @@ impl Labels {
         self.list[v as usize] = label;
     }
 
+    /// The labels by themselves, in the order of the voxels' numbers.
+    pub fn into_list(self) -> Vec<u32>
+        ensures value { result.items ≡ self.labels }
+        ensures labelled { IsLabelled self }
+    {
+        self.list
+    }
+
     /// All labels, in the order of the voxels' numbers.
     pub fn list(&self) -> &[u32]
         ensures value { result.now ≡ self.now.labels }

@@ -1,6 +1,6 @@
 ghost use Rattle.std.specs.Prelude.{◌≡◌, ℕ, All, AllPairs, IfOk, IsPermutation, length};
 ghost use Rattle.agglo_model.specs.Basins.{AreBasins, names};
-ghost use Rattle.agglo_model.specs.Greedy.{IsGreedyRun};
+ghost use Rattle.agglo_model.specs.Greedy.{IsGreedyRun, after_merges};
 ghost use Rattle.agglo_model.specs.Grid.{Grid};
 ghost use Rattle.agglo_model.specs.MergeLaws.{AreFalling};
 ghost use Rattle.agglo_model.specs.Segmentation.{AreLevels, IsSegmentation};
@@ -15,7 +15,7 @@ use agglo_model::laws_of_merging::{greedy_merges_are_lawful, sorted_merges_are_g
 use agglo_model::laws_of_nodes::{basins_are_connected, works_are_a_run};
 use chunk_run::{Gate, LevelCount, run_tree};
 use chunk_tree::Cutting;
-use merge_tree::{Merge, apply, in_order, sort_by_threads};
+use merge_tree::{Merge, apply, apply_by_threads, in_order, sort_by_threads};
 use region_graph::Site;
 use seg_base::Labels;
 use std::alloc::Global;
@@ -49,12 +49,11 @@ pub fn segment<R: Threads + Sync, G: Gate>(
     ensures answer { IfOk result (λ answer. IsSegmentation vol.now settings.now.low settings.now.threshold cutting.now
         answer.labels.labels answer.basins answer.merges.items answer.levels.items) }
 {
-    let mut labels = start_labels(rt, alloc, vol, cutting, settings)?;
+    let labels = start_labels(rt, alloc, vol, cutting, settings)?;
     let count = count_basins(&labels);
     let done = agglomerate(rt, alloc, vol, &labels, cutting, settings, gate)?;
-    apply(alloc, &mut labels, &done.merges)?;
     Ok(Answer {
-        labels,
+        labels: renamed(rt, alloc, labels, &done.merges, settings.workers)?,
         basins: count,
         merges: done.merges,
         levels: done.levels,
@@ -128,6 +127,25 @@ fn ordered<R: Threads + Sync>(
     let mut sorted = merges;
     sort_by_threads(rt, &mut sorted);
     Ok(sorted)
+}
+
+/// The labels after the merges, filled in by threads where there are several workers.
+fn renamed<R: Threads + Sync>(
+    rt: &R,
+    alloc: Global,
+    labels: Labels,
+    merges: &[Merge],
+    workers: u32,
+) -> Result<Labels, Memory>
+    requires small { All HasSmallNames merges.now }
+    ensures { IfOk result (λ renamed. renamed ≡ record labels { labels = after_merges labels.labels merges.now }) }
+{
+    if workers > 1 {
+        return apply_by_threads(rt, alloc, labels, merges);
+    }
+    let mut renamed = labels;
+    apply(alloc, &mut renamed, merges)?;
+    Ok(renamed)
 }
 
 /// How many basins there are: a basin has the name of one of its voxels, the number of it plus 1.

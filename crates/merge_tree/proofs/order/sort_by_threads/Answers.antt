@@ -1,7 +1,5 @@
-use Rattle.std.proofs.Common.{rules, subst}
-use Rattle.std.specs.Prelude.{All}
+use Rattle.std.proofs.Common.{rules}
 use Rattle.std.proofs.lemmas.List.Sorted.{answers_always}
-use Rattle.merge_tree.specs.Order.{HasEdges}
 use Rattle.merge_tree.proofs.Ranks.{first_order, falling, all_falling}
 use Rattle.merge_tree.proofs.order.sort_by_threads.Goals as goal
 
