@@ -30,6 +30,7 @@ pub mod TakenSlots
 mod ListedSlots
 mod WrittenBack
 mod ListedLinks
+mod NotedLinks
 mod MergedPairs
 mod FirstPair
 mod MergedInto

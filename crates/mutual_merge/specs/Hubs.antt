@@ -1,6 +1,6 @@
 -- Slots with so many links that these have entries in a heap, the hubs. An entry tells of a link and of its contact.
 -- There may be others, which tell of what was so once.
-use Rattle.std.specs.Prelude.{◌≡◌, ◌≢◌, ℕ, ◌<◌, List, [], ◌∷◌, Contains, length, slice_index_or}
+use Rattle.std.specs.Prelude.{◌≡◌, ◌≢◌, ℕ, ◌<◌, List, [], ◌∷◌, Contains, length, map, slice_index_or, ◌/◌}
 use Rattle.agglo_model.specs.PairOrder.{IsWithinLimits}
 use Rattle.mean_fraction.specs.OrderNumbers.{order_number}
 use Rattle.mutual_merge.specs.declared.hubs.Entry.{Entry}
@@ -52,3 +52,7 @@ AreReady links hubs = (k : ℕ) → IsHub hubs k → TellAll (entries_at hubs k)
 abbrev pub AreReadyBut : List Link → Hubs → List ℕ → Type 0
 AreReadyBut links hubs changed = (k i : ℕ) → IsHub hubs k → i < length links → ¬ (Contains changed i)
     → IsLiveAt k (nth_link links i) → IsAmong (entries_at hubs k) i (nth_link links i)
+
+-- the indices of the links that these items are ends of
+abbrev pub links_of : List ℕ → List ℕ
+links_of items = map (λ j. j / 2) items

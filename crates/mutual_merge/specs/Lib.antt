@@ -10,4 +10,5 @@ pub mod HubEntries
 pub mod Hubs
 pub mod Moved
 pub mod Closing
+pub mod Indexed
 pub mod Chains
