@@ -33,3 +33,5 @@ mod ListedLinks
 mod MergedPairs
 mod FirstPair
 mod MergedInto
+mod ReadyHubs
+mod HubFirsts

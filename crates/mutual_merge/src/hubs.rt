@@ -30,14 +30,13 @@ struct Hub {
 
 impl Model for Hub {
     ghost use Rattle.std.specs.BinaryHeap.{IsHeap, heap_items};
-    ghost use Rattle.std.specs.Ordering.{nat_cmp, ordering_then};
-    ghost use Rattle.mutual_merge.specs.HubEntries.{HubEntries};
+    ghost use Rattle.mutual_merge.specs.HubEntries.{HubEntries, entry_cmp};
 
     ghost Value = { HubEntries };
 
     ghost view = { λ h. record { slot = h.slot; entries = heap_items h.heap } };
 
-    ghost invariant = { λ h. IsHeap (λ x y. ordering_then (nat_cmp x.number y.number) (nat_cmp x.link y.link)) (heap_items h.heap) };
+    ghost invariant = { λ h. IsHeap entry_cmp (heap_items h.heap) };
 }
 
 impl Hub {
