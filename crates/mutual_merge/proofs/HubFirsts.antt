@@ -1,11 +1,11 @@
 -- The first link at a hub by its entries.
-use Rattle.std.proofs.Common.{◌≡◌, ◌≢◌, ◌⊎◌, inl, inr, ℕ, ◌<◌, ◌≤◌, ◌/◌, false, List, [], ◌∷◌, ◌++◌, length, Some, None, refl, sym, ap, ◌∙◌, subst, arith, lit<}
-use Rattle.std.specs.Prelude.{Contains, IsPermutation}
-use Rattle.std.specs.BinaryHeap.{IsUpperBound}
+use Rattle.std.proofs.Common.{◌≡◌, ◌≢◌, ◌⊎◌, inl, inr, ℕ, ◌<◌, ◌≤◌, ◌/◌, false, List, [], ◌∷◌, ◌++◌, length, get_or, Option, Some, None, refl, sym, ap, ◌∙◌, subst, arith, lit<}
+use Rattle.std.specs.Prelude.{Contains, IfNone, IfSome, IsPermutation}
+use Rattle.std.specs.BinaryHeap.{IsHeap, IsUpperBound, PopsGreatest}
 use Rattle.std.specs.declared.cmp.Ordering.{Ordering}
 use Rattle.std.specs.Ordering.{is_lt, nat_cmp, ordering_then}
 use Rattle.std.proofs.lemmas.List.Elements.{All-contains, All-from_recursion, Contains-push_cases}
-use Rattle.std.proofs.lemmas.List.Sorted.{Contains-permutation, first_le_from_greatest}
+use Rattle.std.proofs.lemmas.List.Sorted.{Contains-permutation, first_le_from_greatest, length_permutation}
 use Rattle.agglo_model.specs.PairOrder.{IsWithinLimits, Before}
 use Rattle.agglo_model.proofs.Members.{contains_cases, contains_none}
 use Rattle.mean_fraction.specs.OrderNumbers.{order_number}
@@ -18,7 +18,7 @@ use Rattle.mutual_merge.specs.Slots.{Covers, IsFirstAt, IsLiveAt, nth_link}
 
 -- what is not less by two comparisons is not less by the first
 number_le : (a b : ℕ) (o : Ordering) → is_lt (ordering_then (nat_cmp a b) o) ≡ false → b ≤ a
-number_le a b o not_less = first_le_from_greatest (λ x y. o) (a, 0) ((b, 0) ∷ []) (not_less, tt) 0 (b, 0) (lit< tt)
+number_le a b o not_less = first_le_from_greatest {Y = ℕ} (λ x y. o) (a, 0) ((b, 0) ∷ []) (not_less, tt) 0 (b, 0) (lit< tt)
 
 -- the top has the greatest number
 top_number : (top : Entry) (entries : List Entry) (entry : Entry) → IsUpperBound entry_cmp top entries → Contains entries entry → entry.number ≤ top.number
@@ -80,3 +80,28 @@ tell_all entries links slot items covers tell i below live =
     let (j, inside, half) = covers i below live in
     subst (λ k. IsAmong entries k (nth_link links k)) half
     (tell j inside (subst (λ k. IsLiveAt slot (nth_link links k)) (sym half) live))
+
+-- entries in another order tell of the same links
+pub tell_permuted : (xs ys : List Entry) (links : List Link) (slot : ℕ) → IsPermutation xs ys → TellAll xs links slot → TellAll ys links slot
+tell_permuted xs ys links slot same tells i below live =
+    let is = tells i below live in
+    record { entry = Contains-permutation xs ys (entry_of i (nth_link links i)) same is.entry; within = is.within }
+
+-- What is left of a heap whose top was popped is a heap, and tells of all links if the top was no true entry.
+pub record IsPopped (entries rest : List Entry) (links : List Link) (slot : ℕ) : Type 0 where
+  pub ordered : IsHeap entry_cmp rest
+  pub tells : TellAll rest links slot
+
+pub popped_left : (popped : Option Entry) (count : ℕ) (entries rest : List Entry) (links : List Link) (slot : ℕ) (top : Entry) → 0 < count
+    → top ≡ get_or entries 0 top → IfNone popped (count ≡ 0) → IfSome popped (λ x. x ≡ get_or entries 0 x)
+    → IfSome popped (λ x. IsPermutation entries (x ∷ rest)) → IfSome popped (λ x. PopsGreatest entry_cmp entries x rest)
+    → ¬ (IsTrueEntry top links slot) → IsHeap entry_cmp entries → TellAll entries links slot → IsPopped entries rest links slot
+popped_left None count entries rest links slot top some read none is moved ordered untrue heap tells = absurd (omega (arith, some, none))
+popped_left (Some x) count [] rest links slot top some read none is moved ordered untrue heap tells =
+    absurd (omega (arith, length_permutation [] (x ∷ rest) moved))
+popped_left (Some x) count (y ∷ ys) rest links slot top some read none is moved ordered untrue heap tells = record {
+  ordered = (ordered heap).0;
+  tells =
+      popped_tell (y ∷ ys) rest links slot x moved
+      (λ true. untrue (subst (λ e. IsTrueEntry e links slot) (is ∙ sym read) true)) tells;
+}
