@@ -1,12 +1,12 @@
 -- The first link at a hub by its entries.
-use Rattle.std.proofs.Common.{◌≡◌, ◌≢◌, ◌⊎◌, inl, inr, ℕ, ◌<◌, ◌≤◌, ◌/◌, false, List, [], ◌∷◌, ◌++◌, length, get_or, Option, Some, None, refl, sym, ap, ◌∙◌, subst, arith, lit<}
+use Rattle.std.proofs.Common.{◌≡◌, inl, inr, ℕ, ◌<◌, ◌≤◌, ◌/◌, false, List, [], ◌∷◌, ◌++◌, length, get_or, Option, Some, None, refl, sym, ap, ◌∙◌, subst, arith, lit<}
 use Rattle.std.specs.Prelude.{Contains, IfNone, IfSome, IsPermutation}
 use Rattle.std.specs.BinaryHeap.{IsHeap, IsUpperBound, PopsGreatest}
 use Rattle.std.specs.declared.cmp.Ordering.{Ordering}
 use Rattle.std.specs.Ordering.{is_lt, nat_cmp, ordering_then}
 use Rattle.std.proofs.lemmas.List.Elements.{All-contains, All-from_recursion, Contains-push_cases}
 use Rattle.std.proofs.lemmas.List.Sorted.{Contains-permutation, first_le_from_greatest, length_permutation}
-use Rattle.agglo_model.specs.PairOrder.{IsWithinLimits, Before}
+use Rattle.agglo_model.specs.PairOrder.{Before}
 use Rattle.agglo_model.proofs.Members.{contains_cases, contains_none}
 use Rattle.mean_fraction.specs.OrderNumbers.{order_number}
 use Rattle.mean_fraction.proofs.OrderNumbers.{number_lt-before}

@@ -1,5 +1,5 @@
 -- Hubs stay ready: of each live link at a hub there is an entry.
-use Rattle.std.proofs.Common.{◌≡◌, ◌≢◌, ◌⊎◌, ◌↔◌, inl, inr, ℕ, ◌+◌, ◌<◌, ◌≤◌, List, [], ◌∷◌, ◌++◌, length, get_or, set, refl, sym, ap, ◌∙◌, subst, arith}
+use Rattle.std.proofs.Common.{◌≡◌, ◌≢◌, ◌⊎◌, inl, inr, ℕ, ◌+◌, ◌<◌, List, [], ◌∷◌, ◌++◌, length, get_or, set, sym, ap, ◌∙◌, subst, arith}
 use Rattle.std.specs.Prelude.{Contains, IsPermutation}
 use Rattle.std.proofs.lemmas.Bool.{cases_eq, cases_lt}
 use Rattle.std.proofs.lemmas.List.{get_or-set_other, get_or-set_same, get_or_append_left, length-append, length-set}
@@ -12,7 +12,7 @@ use Rattle.mutual_merge.specs.declared.hubs.Hubs.{Hubs}
 use Rattle.mutual_merge.specs.declared.hubs.TheConstants.{NONE}
 use Rattle.mutual_merge.specs.declared.links.Link.{Link}
 use Rattle.mutual_merge.specs.HubEntries.{HubEntries}
-use Rattle.mutual_merge.specs.Hubs.{AreReady, AreReadyBut, HasEntry, HasGained, IsAmong, IsHub, TellAll, entries_at, entry_of, nth_hub, number_at}
+use Rattle.mutual_merge.specs.Hubs.{AreReady, AreReadyBut, HasGained, IsAmong, IsHub, TellAll, entries_at, entry_of, nth_hub, number_at}
 use Rattle.mutual_merge.specs.Slots.{IsLiveAt, nth_link}
 
 -- what is past the end of a list of hubs

@@ -1,6 +1,6 @@
 -- Slots with so many links that these have entries in a heap, the hubs. An entry tells of a link and of its contact.
 -- There may be others, which tell of what was so once.
-use Rattle.std.specs.Prelude.{◌≡◌, ◌≢◌, ℕ, ◌<◌, ◌↔◌, ◌/◌, List, [], ◌∷◌, Contains, length, slice_index_or}
+use Rattle.std.specs.Prelude.{◌≡◌, ◌≢◌, ℕ, ◌<◌, ◌↔◌, ◌/◌, List, [], Contains, length, slice_index_or}
 use Rattle.agglo_model.specs.PairOrder.{IsWithinLimits}
 use Rattle.mean_fraction.specs.OrderNumbers.{order_number}
 use Rattle.mutual_merge.specs.declared.hubs.Entry.{Entry}

@@ -5,7 +5,7 @@ use Rattle.std.proofs.lemmas.List.Elements.{Contains-append_left, Contains-push}
 use Rattle.agglo_model.specs.PairOrder.{IsWithinLimits}
 use Rattle.mutual_merge.specs.declared.hubs.Entry.{Entry}
 use Rattle.mutual_merge.specs.declared.links.Link.{Link}
-use Rattle.mutual_merge.specs.Hubs.{IsAmong, TellOf, entry_of}
+use Rattle.mutual_merge.specs.Hubs.{TellOf, entry_of}
 use Rattle.mutual_merge.specs.Slots.{IsLiveAt, nth_link}
 use Rattle.mutual_merge.proofs.SlotFirsts.{read_link}
 use Rattle.mutual_merge.proofs.HubFirsts.{tell_all, tell_more}

@@ -1,8 +1,6 @@
-use Rattle.std.proofs.Common.{◌<◌, List, refl, sym, subst, true≢false}
+use Rattle.std.proofs.Common.{refl, sym, subst, true≢false}
 use Rattle.std.specs.Prelude.{IsTrue}
 use Rattle.std.specs.BinaryHeap.{heap_items, heap_len}
-use Rattle.mutual_merge.specs.declared.hubs.Entry.{Entry}
-use Rattle.mutual_merge.specs.declared.links.Link.{Link}
 use Rattle.mutual_merge.specs.Hubs.{IsTrueEntry}
 use Rattle.mutual_merge.proofs.HubFirsts.{popped_left, top_is_first}
 use Rattle.mutual_merge.proofs.hubs.Hub.first.Goals as goal

@@ -1,4 +1,3 @@
-use Rattle.std.proofs.Common.{List}
 use Rattle.mutual_merge.proofs.HubFirsts.{tell_permuted}
 use Rattle.mutual_merge.proofs.hubs.Hub.open.Goals as goal
 

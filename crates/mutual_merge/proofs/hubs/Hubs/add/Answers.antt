@@ -1,8 +1,7 @@
-use Rattle.std.proofs.Common.{◌≡◌, ◌<◌, ◌∷◌, ◌∙◌, List, [], length, refl, sym, ap, subst}
+use Rattle.std.proofs.Common.{◌≡◌, ◌<◌, ◌∷◌, ◌∙◌, [], length, refl, sym, ap, subst}
 use Rattle.std.specs.Prelude.{IsPermutation}
 use Rattle.std.proofs.lemmas.List.{get_or_read}
 use Rattle.mutual_merge.specs.declared.hubs.Entry.{Entry}
-use Rattle.mutual_merge.specs.declared.hubs.Hubs.{Hubs}
 use Rattle.mutual_merge.specs.HubEntries.{HubEntries}
 use Rattle.mutual_merge.specs.Hubs.{nth_hub}
 use Rattle.mutual_merge.proofs.ReadyHubs.{gained_entry}

@@ -1,7 +1,6 @@
-use Rattle.std.proofs.Common.{◌≡◌, ◌∷◌, ℕ, List}
+use Rattle.std.proofs.Common.{◌∷◌, ℕ, List}
 use Rattle.std.proofs.lemmas.Result.{IfOk-weaker}
 use Rattle.mutual_merge.specs.Hubs.{AreReady, AreReadyBut, HasGained}
-use Rattle.mutual_merge.specs.Slots.{nth_link}
 use Rattle.mutual_merge.proofs.SlotFirsts.{read_link}
 use Rattle.mutual_merge.proofs.ReadyHubs.{gained_both, gained_ready}
 use Rattle.mutual_merge.proofs.hubs.Hubs.note.Goals as goal
