@@ -34,3 +34,5 @@ mod NotedLinks
 mod MergedPairs
 mod FirstPair
 mod MergedInto
+mod ReadyHubs
+mod HubFirsts

@@ -1,6 +1,6 @@
 -- Slots with so many links that these have entries in a heap, the hubs. An entry tells of a link and of its contact.
 -- There may be others, which tell of what was so once.
-use Rattle.std.specs.Prelude.{◌≡◌, ◌≢◌, ℕ, ◌<◌, List, [], ◌∷◌, Contains, length, map, slice_index_or, ◌/◌}
+use Rattle.std.specs.Prelude.{◌≡◌, ◌≢◌, ℕ, ◌<◌, ◌↔◌, ◌/◌, List, [], Contains, length, map, slice_index_or}
 use Rattle.agglo_model.specs.PairOrder.{IsWithinLimits}
 use Rattle.mean_fraction.specs.OrderNumbers.{order_number}
 use Rattle.mutual_merge.specs.declared.hubs.Entry.{Entry}
@@ -56,3 +56,19 @@ AreReadyBut links hubs changed = (k i : ℕ) → IsHub hubs k → i < length lin
 -- the indices of the links that these items are ends of
 abbrev pub links_of : List ℕ → List ℕ
 links_of items = map (λ j. j / 2) items
+
+-- these entries tell of the live links at slot k that are among the items
+abbrev pub TellOf : List Entry → List Link → ℕ → List ℕ → Type 0
+TellOf entries links k items = (j : ℕ) → Contains items j → IsLiveAt k (nth_link links (j / 2)) → IsAmong entries (j / 2) (nth_link links (j / 2))
+
+-- the entry tells of a live link at slot k as it is
+pub record IsTrueEntry (entry : Entry) (links : List Link) (k : ℕ) : Type 0 where
+  pub there : entry.link < length links
+  pub live : IsLiveAt k (nth_link links entry.link)
+  pub now : entry ≡ entry_of entry.link (nth_link links entry.link)
+
+-- Of the link of index i there is an entry now if the slot k is a hub. All other entries at hubs stay.
+pub record HasGained (k i : ℕ) (l : Link) (old new : Hubs) : Type 0 where
+  pub same_hubs : (j : ℕ) → IsHub new j ↔ IsHub old j
+  pub kept : (j : ℕ) (entry : Entry) → HasEntry old j entry → HasEntry new j entry
+  pub gained : IsHub new k → IsAmong (entries_at new k) i l

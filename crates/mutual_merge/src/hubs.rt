@@ -1,8 +1,10 @@
-ghost use Rattle.std.specs.Prelude.{◌≡◌, ℕ, ◌<◌, ◌↔◌, ◌∷◌, IfOk, IsTrue, List, length};
-ghost use Rattle.mutual_merge.specs.Hubs.{AreReady, AreReadyBut, IsHub, TellAll, entry_of};
+ghost use Rattle.std.specs.Prelude.{◌≡◌, ℕ, ◌<◌, ◌↔◌, ◌∷◌, IfOk, IsPermutation, IsTrue, List, MatchOption, length};
+ghost use Rattle.agglo_model.specs.PairOrder.{IsWithinLimits};
+ghost use Rattle.mutual_merge.specs.Hubs.{AreReady, AreReadyBut, HasGained, IsHub, IsTrueEntry, TellAll, entry_of, number_at};
 ghost use Rattle.mutual_merge.specs.Slots.{AreItems, Covers, IsFirstAt, IsLiveAt, nth_link};
 
 use crate::links::Link;
+use crate::slot_links::is_live_at;
 use agglo_model::Memory;
 use mean_fraction::order_number;
 use std::alloc::Global;
@@ -28,14 +30,102 @@ struct Hub {
 
 impl Model for Hub {
     ghost use Rattle.std.specs.BinaryHeap.{IsHeap, heap_items};
-    ghost use Rattle.std.specs.Ordering.{nat_cmp, ordering_then};
-    ghost use Rattle.mutual_merge.specs.HubEntries.{HubEntries};
+    ghost use Rattle.mutual_merge.specs.HubEntries.{HubEntries, entry_cmp};
 
     ghost Value = { HubEntries };
 
     ghost view = { λ h. record { slot = h.slot; entries = heap_items h.heap } };
 
-    ghost invariant = { λ h. IsHeap (λ x y. ordering_then (nat_cmp x.number y.number) (nat_cmp x.link y.link)) (heap_items h.heap) };
+    ghost invariant = { λ h. IsHeap entry_cmp (heap_items h.heap) };
+}
+
+impl Hub {
+    /// A hub of the links at a slot that are among these items.
+    fn open(alloc: Global, slot: u32, links: &[Link], items: &[u32]) -> Result<Hub, Memory>
+        requires covers { Covers items.now links.now slot }
+        requires items { AreItems (length links.now) items.now }
+        ensures slot { IfOk result (λ hub. hub.slot ≡ slot) }
+        ensures tells { IfOk result (λ hub. TellAll hub.entries links.now slot) }
+    {
+        let entries = list_entries(alloc, slot, links, items)?;
+        Ok(Hub {
+            slot,
+            heap: BinaryHeap::from(entries),
+        })
+    }
+
+    /// Takes in one more entry.
+    fn push(&mut self, entry: Entry) -> Result<(), Memory>
+        ensures slot { IfOk result (λ _. self.new.slot ≡ self.old.slot) }
+        ensures pushed { IfOk result (λ _. IsPermutation (entry ∷ self.old.entries) self.new.entries) }
+    {
+        self.heap.push(entry)?;
+        Ok(())
+    }
+
+    fn len(&self) -> usize {
+        self.heap.len()
+    }
+
+    /// The first link at the slot, by its index. Entries of what is no longer so are thrown away as they come up.
+    fn first(&mut self, links: &[Link]) -> Option<u32>
+        requires { TellAll self.old.entries links.now self.old.slot }
+        ensures slot { self.new.slot ≡ self.old.slot }
+        ensures tells { TellAll self.new.entries links.now self.new.slot }
+        ensures first { IsFirstAt links.now self.old.slot result }
+    {
+        while let Some(top) = self.heap.peek() {
+            let top = *top;
+            if is_true(top, links, self.slot) {
+                return Some(top.link);
+            }
+            let _ = self.heap.pop();
+        }
+        None
+    }
+}
+
+/// The entries of the links at a slot that are among these items.
+fn list_entries(
+    alloc: Global,
+    slot: u32,
+    links: &[Link],
+    items: &[u32],
+) -> Result<Vec<Entry>, Memory>
+    requires covers { Covers items.now links.now slot }
+    requires items { AreItems (length links.now) items.now }
+    ensures { IfOk result (λ entries. TellAll entries.items links.now slot) }
+{
+    let mut entries = Vec::with_capacity(alloc, items.len())?;
+    for item in items {
+        let index = item / 2;
+        let link = &links[index as usize];
+        if is_live_at(link, slot) {
+            entries.push(entry_of(index, link))?;
+        }
+    }
+    Ok(entries)
+}
+
+/// The entry of a link as it is.
+fn entry_of(index: u32, link: &Link) -> Entry
+    ensures entry { result ≡ entry_of index link.now }
+    ensures within { IsWithinLimits link.now.contact }
+{
+    Entry {
+        number: order_number(&link.contact),
+        link: index,
+    }
+}
+
+/// Whether an entry tells of a link at a slot as it is.
+fn is_true(entry: Entry, links: &[Link], slot: u32) -> bool
+    ensures { IsTrue result ↔ IsTrueEntry entry links.now slot }
+{
+    match links.get(entry.link as usize) {
+        Some(link) => is_live_at(link, slot) && entry.number == order_number(&link.contact),
+        None => false,
+    }
 }
 
 /// Slots with so many links that their lists are not looked at for the first one, the hubs. A hub has a heap with an
@@ -70,7 +160,7 @@ impl Hubs {
     /// How many entries a slot has, true ones and others.
     pub fn len_of(&self, slot: u32) -> usize {
         match self.find(slot) {
-            Some(number) => self.hubs[number].heap.len(),
+            Some(number) => self.hubs[number].len(),
             None => 0,
         }
     }
@@ -81,6 +171,16 @@ impl Hubs {
         requires items { AreItems (length links.now) items.now }
         ensures { IfOk result (λ _. AreReady links.now self.old → AreReady links.now self.new) }
     {
+        if self.is_hub(slot) {
+            return Ok(());
+        }
+        let Ok(number) = u32::try_from(self.hubs.len()) else {
+            return Ok(());
+        };
+        self.hubs.push(Hub::open(self.alloc, slot, links, items)?)?;
+        if let Some(place) = self.numbers.get_mut(slot as usize) {
+            *place = number;
+        }
         Ok(())
     }
 
@@ -92,7 +192,9 @@ impl Hubs {
         ensures ready { IfOk result (λ _. AreReady links.now self.old → AreReady links.now self.new) }
         ensures hubs { IfOk result (λ _. (k : ℕ) → IsHub self.new k ↔ IsHub self.old k) }
     {
-        Ok(())
+        let link = &links[index as usize];
+        self.add(link.a, index, link)?;
+        self.add(link.b, index, link)
     }
 
     /// The first link at a hub, by its index. Entries of what is no longer so are thrown away as they come up.
@@ -102,17 +204,42 @@ impl Hubs {
         ensures ready { AreReady links.now self.new }
         ensures first { IsFirstAt links.now slot result }
     {
-        None
+        let number = self.find(slot)?;
+        self.hubs[number].first(links)
     }
 
     /// Lets a slot be no hub any more, and gives back the memory of its entries.
     pub fn close(&mut self, slot: u32)
         ensures ready { (links : List Link) → AreReady links self.old → AreReady links self.new }
         ensures closed { IsHub self.new slot → ⊥ }
-    {}
+    {
+        if let Some(number) = self.find(slot) {
+            self.hubs[number] = Hub {
+                slot,
+                heap: BinaryHeap::new(self.alloc),
+            };
+            self.numbers[slot as usize] = NONE;
+        }
+    }
 
     /// The number of a slot's hub, if it is one.
-    fn find(&self, slot: u32) -> Option<usize> {
-        None
+    fn find(&self, slot: u32) -> Option<usize>
+        ensures { MatchOption result (IsHub self.now slot → ⊥) (λ number. (number ≡ number_at self.now slot) × IsHub self.now slot) }
+    {
+        let number = *self.numbers.get(slot as usize)?;
+        match self.hubs.get(number as usize) {
+            Some(hub) if number != NONE && hub.slot == slot => Some(number as usize),
+            _ => None,
+        }
+    }
+
+    /// Gives a slot an entry of this link, if it is a hub.
+    fn add(&mut self, slot: u32, index: u32, link: &Link) -> Result<(), Memory>
+        ensures { IfOk result (λ _. HasGained slot index link.now self.old self.new) }
+    {
+        if let Some(number) = self.find(slot) {
+            self.hubs[number].push(entry_of(index, link))?;
+        }
+        Ok(())
     }
 }

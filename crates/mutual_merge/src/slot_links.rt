@@ -60,7 +60,7 @@ fn earlier(links: &[Link], first: Option<u32>, index: u32, slot: u32) -> Option<
 }
 
 /// Whether a link joins the slot to another one.
-fn is_live_at(link: &Link, slot: u32) -> bool
+pub fn is_live_at(link: &Link, slot: u32) -> bool
     ensures { IsTrue result ↔ IsLiveAt slot link.now }
 {
     link.a != link.b && (link.a == slot || link.b == slot)

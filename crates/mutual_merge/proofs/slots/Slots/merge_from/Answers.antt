@@ -1,8 +1,7 @@
 use Rattle.std.proofs.Common.{rules, ◌≡◌, ◌≢◌, ℕ, ◌<◌, ◌/◌, List, length, sym, ap, ◌∙◌, subst}
 use Rattle.std.specs.Prelude.{Contains, IsTrue}
-use Rattle.agglo_model.specs.RegionGraph.{Region}
 use Rattle.mutual_merge.specs.declared.links.Link.{Link}
-use Rattle.mutual_merge.specs.Slots.{HasTakenOver, IsLiveAt, IsSlotLink, Joins, merge_at, nth_link, other_end}
+use Rattle.mutual_merge.specs.Slots.{IsLiveAt, IsSlotLink, Joins, merge_at, nth_link, other_end}
 use Rattle.mutual_merge.proofs.SlotFirsts.{other_inside, read_link, slot_link_at}
 use Rattle.mutual_merge.proofs.FirstPair.{ends_of}
 use Rattle.mutual_merge.proofs.MergedPairs.{apart_other, inside_at, single_by}
