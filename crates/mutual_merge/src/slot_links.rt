@@ -143,6 +143,18 @@ pub fn mark_partners(marks: &mut [u32], links: &[Link], items: &[u32], slot: u32
     }
 }
 
+/// Of the links that these items are ends of, one that joins these two slots.
+pub fn find_joining(links: &[Link], items: &[u32], one: u32, other: u32) -> Option<u32>
+    requires { AreItems (length links.now) items.now }
+{
+    for item in items {
+        if joins(&links[(item / 2) as usize], one, other) {
+            return Some(item / 2);
+        }
+    }
+    None
+}
+
 /// The other slot of a link at this one.
 pub fn other_end(link: &Link, slot: u32) -> u32
     ensures { result ≡ other_end slot link.now }

@@ -22,7 +22,9 @@ use crate::hubs::Hubs;
 use crate::links::{Link, name_of};
 use crate::listing::{copy_items, list_links};
 use crate::merging::LinkedGraph;
-use crate::slot_links::{add_up, first_link, is_single, mark_partners, move_ends, other_end};
+use crate::slot_links::{
+    add_up, find_joining, first_link, is_live_at, is_single, mark_partners, move_ends, other_end,
+};
 use agglo_model::Memory;
 use index_lists::Lists;
 use merge_tree::Merge;
@@ -45,6 +47,9 @@ pub struct Slots {
 
 /// A slot with more links than these becomes a hub when they are looked at.
 const LONG: usize = 256;
+
+/// Where a slot has a smaller share of the links of a hub than one in so many, those of the hub are not looked at.
+const SHARE: usize = 8;
 
 impl Slots {
     /// The slots of a graph, of which none is closed.
@@ -123,7 +128,8 @@ impl Slots {
     }
 
     /// Merges the pair of a link; None, and all stays as it is, where another link joins the same two slots. Of both
-    /// regions the one with fewer links is taken into the other. `one` and `other` are room to work in.
+    /// regions the one with fewer links is taken into the other, and the links of a hub are looked at only where these
+    /// are not far fewer. `one` and `other` are room to work in.
     pub fn merge(
         &mut self,
         index: u32,
@@ -138,15 +144,77 @@ impl Slots {
             self.new.regions.items self.new.closed.items self.new.links.items made) }
     {
         let link = self.links[index as usize];
-        self.gather(link.a, one)?;
-        self.gather(link.b, other)?;
-        if one.len() <= other.len() {
-            mark_partners(&mut self.marks, &self.links, other, link.b);
-            self.merge_from(index, link.a, one)
-        } else {
-            mark_partners(&mut self.marks, &self.links, one, link.a);
-            self.merge_from(index, link.b, other)
+        let from = self.lesser_end(&link);
+        let to = other_end(&link, from);
+        self.gather(from, one)?;
+        if self.hubs.len_of(to) / SHARE > one.len() {
+            self.mark_shared(one, from, to, other)?;
+            return self.merge_from(index, from, one);
         }
+        self.gather(to, other)?;
+        if one.len() <= other.len() {
+            mark_partners(&mut self.marks, &self.links, other, to);
+            self.merge_from(index, from, one)
+        } else {
+            mark_partners(&mut self.marks, &self.links, one, from);
+            self.merge_from(index, to, other)
+        }
+    }
+
+    /// The slot of a link's two that has fewer entries as a hub. A slot that is none has no entry.
+    fn lesser_end(&self, link: &Link) -> u32
+        requires { IsLive link.now }
+        ensures { IsLiveAt result link.now }
+    {
+        if self.hubs.len_of(link.a) <= self.hubs.len_of(link.b) {
+            link.a
+        } else {
+            link.b
+        }
+    }
+
+    /// Marks the slots that links join to both of two slots, as `mark_partners` does for the second, but by their own
+    /// lists: the second is a hub, with many links. The items are those of the links at the first.
+    fn mark_shared(
+        &mut self,
+        items: &[u32],
+        from: u32,
+        to: u32,
+        room: &mut Vec<u32>,
+    ) -> Result<(), Memory>
+        requires indexed { IsIndexed self.old }
+        requires items { AreItems (length self.old.links.items) items.now }
+        ensures indexed { IfOk result (λ _. IsIndexed self.new) }
+        ensures regions { self.new.regions ≡ self.old.regions }
+        ensures closed { self.new.closed ≡ self.old.closed }
+        ensures links { self.new.links ≡ self.old.links }
+    {
+        for item in items {
+            let link = self.links[(item / 2) as usize];
+            if is_live_at(&link, from) {
+                self.mark_joined(other_end(&link, from), to, room)?;
+            }
+        }
+        Ok(())
+    }
+
+    /// Marks a slot with the number of a link that joins it to another one, if there is one in its list.
+    fn mark_joined(&mut self, slot: u32, to: u32, room: &mut Vec<u32>) -> Result<(), Memory>
+        requires indexed { IsIndexed self.old }
+        requires inside { slot < length self.old.regions.items }
+        ensures indexed { IfOk result (λ _. IsIndexed self.new) }
+        ensures regions { self.new.regions ≡ self.old.regions }
+        ensures closed { self.new.closed ≡ self.old.closed }
+        ensures links { self.new.links ≡ self.old.links }
+    {
+        if slot == to || self.hubs.is_hub(slot) {
+            return Ok(());
+        }
+        self.gather_at(slot, room)?;
+        if let Some(index) = find_joining(&self.links, room, slot, to) {
+            self.marks[slot as usize] = index;
+        }
+        Ok(())
     }
 
     /// The slot of a link's two that is not closed; the second, where neither is.
