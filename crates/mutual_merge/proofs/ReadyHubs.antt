@@ -2,7 +2,7 @@
 use Rattle.std.proofs.Common.{◌≡◌, ◌≢◌, ◌⊎◌, inl, inr, ℕ, ◌+◌, ◌<◌, ◌≤◌, List, [], ◌∷◌, ◌++◌, length, get_or, set, sym, ap, ◌∙◌, subst, arith, Vec, Global}
 use Rattle.std.specs.Prelude.{Contains, IsPermutation}
 use Rattle.std.proofs.lemmas.Bool.{cases_eq, cases_lt}
-use Rattle.std.proofs.lemmas.List.{get_or-set_other, get_or-set_same, get_or_append_left, get_or_past, length-append, length-set}
+use Rattle.std.proofs.lemmas.List.{get_or-set_other, get_or-set_same, get_or_append_left, get_or_past, get_or_read, length-append, length-set}
 use Rattle.std.proofs.lemmas.List.Sorted.{Contains-permutation}
 use Rattle.std.proofs.Math.Seq.{get_or-append_seam}
 use Rattle.agglo_model.specs.PairOrder.{IsWithinLimits}
@@ -18,6 +18,15 @@ use Rattle.mutual_merge.specs.Slots.{IsLiveAt, nth_link}
 -- what is past the end of a list of hubs
 abbrev no_hub : HubEntries
 no_hub = record { slot = 0; entries = [] }
+
+-- the hub that a read of this number gives
+pub read_hub : (hubs : Hubs) (number : ℕ) (hub : HubEntries) → number < length hubs.hubs.items → hub ≡ get_or hubs.hubs.items number hub
+    → nth_hub hubs number ≡ hub
+read_hub hubs number hub there read = sym (get_or_read hubs.hubs.items number hub there read no_hub)
+
+-- a number that is that of a hub is one of those that there are
+pub number_inside : (hubs : Hubs) (number k : ℕ) → number ≡ number_at hubs k → IsHub hubs k → number < length hubs.hubs.items
+number_inside hubs number k at is = subst (λ n. n < length hubs.hubs.items) (sym at) is.there
 
 -- One hub was written, for the same slot.
 pub record HasWritten (number : ℕ) (hub : HubEntries) (old new : Hubs) : Type 0 where

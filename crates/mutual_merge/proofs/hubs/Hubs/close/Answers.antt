@@ -1,5 +1,5 @@
-use Rattle.std.proofs.Common.{◌<◌, length, refl, sym, subst}
-use Rattle.mutual_merge.proofs.ReadyHubs.{closed_ready, hub_inside}
+use Rattle.std.proofs.Common.{refl}
+use Rattle.mutual_merge.proofs.ReadyHubs.{closed_ready, hub_inside, number_inside}
 use Rattle.mutual_merge.proofs.hubs.Hubs.close.Goals as goal
 
 pub returns-in-Some-clause-ready : goal.returns-in-Some-clause-ready
@@ -9,6 +9,6 @@ returns-in-Some-clause-ready c links =
       numbers_are = refl;
       hubs_are = refl;
       slot_there = hub_inside c.args.self.now c.args.slot c.in-Some.ensures.1;
-      there = subst (λ n. n < length c.args.self.now.hubs.items) (sym c.in-Some.ensures.0) c.in-Some.ensures.1.there;
+      there = number_inside c.args.self.now c.in-Some.number c.args.slot c.in-Some.ensures.0 c.in-Some.ensures.1;
       own = refl;
     })
