@@ -198,7 +198,7 @@ impl Slots {
         Ok(())
     }
 
-    /// Marks a slot with the number of a link that joins it to another one, if there is one in its list.
+    /// Marks a slot with the number of a link that joins it to a hub, if one is found.
     fn mark_joined(&mut self, slot: u32, to: u32, room: &mut Vec<u32>) -> Result<(), Memory>
         requires indexed { IsIndexed self.old }
         requires inside { slot < length self.old.regions.items }
@@ -207,11 +207,13 @@ impl Slots {
         ensures closed { self.new.closed ≡ self.old.closed }
         ensures links { self.new.links ≡ self.old.links }
     {
-        if slot == to || self.hubs.is_hub(slot) {
-            return Ok(());
-        }
-        self.gather_at(slot, room)?;
-        if let Some(index) = find_joining(&self.links, room, slot, to) {
+        let index = if self.hubs.is_hub(slot) {
+            self.hubs.link_between(slot, to)
+        } else {
+            self.gather_at(slot, room)?;
+            find_joining(&self.links, room, slot, to)
+        };
+        if let Some(index) = index {
             self.marks[slot as usize] = index;
         }
         Ok(())
