@@ -1,1 +1,2 @@
+pub mod OrderNumbers
 pub use Rattle.agglo_model.specs.PairOrder

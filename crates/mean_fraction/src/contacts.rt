@@ -1,7 +1,9 @@
 ghost use Rattle.std.specs.Prelude.{◌≡◌, ◌+◌, ◌<◌, ◌≤◌, ◌↔◌, SomeIff};
+ghost use Rattle.mean_fraction.specs.OrderNumbers.{order_number};
 ghost use Rattle.agglo_model.specs.PairOrder.{
   IsWithinLimits,
   Before,
+  Contact,
   SameRank,
   added,
   most_edges,
@@ -12,6 +14,12 @@ use std::marker::Model;
 
 /// As many edge numbers as the largest volume has: three for each of 2^28 voxels.
 const MOST_EDGES: u32 = 805_306_368;
+
+/// So many units of an order number's mean make one: more than the product of two numbers of edges.
+const MEAN_UNITS: u128 = 1 << 60;
+
+/// So many numbers are for contacts of one mean: more than there are ties.
+const TIE_UNITS: u32 = 1 << 30;
 
 /// The contact of two regions: the sum of the affinities of its edges, how many edges they are, and
 /// the least edge number, which breaks ties. Its mean affinity is the sum over the count.
@@ -115,4 +123,15 @@ pub fn rank(a: &Contact, b: &Contact) -> Ordering
         Ordering::Equal => b.tie.cmp(&a.tie),
         unequal => unequal,
     }
+}
+
+/// A number that stands for a contact where many are compared: of two contacts the one that comes first has the
+/// greater number.
+pub fn order_number(contact: &Contact) -> u128
+    ensures value { result ≡ order_number contact.now }
+    ensures limits { IsWithinLimits contact.now }
+    ensures before { (other : Contact) → IsWithinLimits other → Before contact.now other ↔ order_number other < result }
+{
+    let scaled_mean = u128::from(contact.sum) * MEAN_UNITS / u128::from(contact.count);
+    scaled_mean * u128::from(TIE_UNITS) + u128::from(TIE_UNITS - 1 - contact.tie)
 }

@@ -5,5 +5,5 @@
 mod contacts;
 mod thresholds;
 
-pub use contacts::{Contact, rank};
+pub use contacts::{Contact, order_number, rank};
 pub use thresholds::{Threshold, ZeroDenominator};

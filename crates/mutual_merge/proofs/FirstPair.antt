@@ -8,7 +8,7 @@ use Rattle.mutual_merge.specs.declared.links.Link.{Link}
 use Rattle.mutual_merge.specs.Slots.{AreFree, IsFirstAt, IsFirstPairAt, IsLiveAt, nth_link, other_end}
 
 -- the two ends of a link at a slot are that one and the other
-ends_of : (k : ℕ) (l : Link) → IsLiveAt k l → ((l.a ≡ k) × (l.b ≡ other_end k l)) ⊎ ((l.a ≡ other_end k l) × (l.b ≡ k))
+pub ends_of : (k : ℕ) (l : Link) → IsLiveAt k l → ((l.a ≡ k) × (l.b ≡ other_end k l)) ⊎ ((l.a ≡ other_end k l) × (l.b ≡ k))
 ends_of k l live = elim (cases_eq l.a k) [
   | inl first ↦ inl (first, sym (ap (λ b. cond b l.b l.a) (is_same l.a k first)))
   | inr second ↦ inr (

@@ -13,7 +13,7 @@ use Rattle.agglo_model.proofs.GraphContacts.{contact_in-is}
 use Rattle.mutual_merge.specs.declared.links.Link.{Link}
 use Rattle.mutual_merge.specs.Linked.{edge_by, edges_by}
 use Rattle.mutual_merge.specs.Merged.{SameContactsBy}
-use Rattle.mutual_merge.specs.Slots.{AreGathered, IsLive, IsSlotLink, Joins, live_edges, nth_link}
+use Rattle.mutual_merge.specs.Slots.{AreGathered, IsKeptOf, IsLive, IsSlotLink, Joins, live_edges, nth_link}
 use Rattle.mutual_merge.proofs.MovedEnds.{nth_written, nth_other}
 use Rattle.mutual_merge.proofs.MovedLinks.{apart_test, turned_test}
 use Rattle.mutual_merge.proofs.WrittenEdges.{IsTakenEdge, joint-taken}
@@ -229,6 +229,18 @@ module _ (links : List Link) (into index : ℕ) (other link : Link) (doubles : A
     contacts = same_contacts;
   }
 
+  pub doubles_kept : IsKeptOf index into links written
+  doubles_kept = record {
+    inside = doubles.into_inside;
+    others = λ j apart live. elim (cases_eq j index) [
+      | inl here ↦ absurd (subst IsLive (ap (nth_link written) here ∙ gone_after) live refl)
+      | inr elsewhere ↦ (
+        elsewhere,
+        nth_other (set links into both) index j gone elsewhere ∙ nth_other links into j both apart,
+      )
+    ];
+  }
+
 pub doubles_within : (links : List Link) (into index : ℕ) (other link : Link) → AreDoubles links into index other link
     → live_edges links ≤ most_edges → other.contact.count + link.contact.count ≤ most_edges
 doubles_within links into index other link doubles within =
@@ -237,3 +249,7 @@ doubles_within links into index other link doubles within =
 pub gathered_double : (links : List Link) (into index : ℕ) (other link : Link) → AreDoubles links into index other link
     → AreGathered links (set (set links into (record other { contact = added other.contact link.contact })) index (record link { b = link.a }))
 gathered_double links into index other link doubles = doubles_gathered links into index other link doubles
+
+pub kept_double : (links : List Link) (into index : ℕ) (other link : Link) → AreDoubles links into index other link
+    → IsKeptOf index into links (set (set links into (record other { contact = added other.contact link.contact })) index (record link { b = link.a }))
+kept_double links into index other link doubles = doubles_kept links into index other link doubles

@@ -30,6 +30,9 @@ pub mod TakenSlots
 mod ListedSlots
 mod WrittenBack
 mod ListedLinks
+mod NotedLinks
 mod MergedPairs
 mod FirstPair
 mod MergedInto
+mod ReadyHubs
+mod HubFirsts

@@ -42,7 +42,7 @@ first_at_all links items k (Some i) covers _ first = (
 )
 
 -- a link that does not end at a slot is the same when links at it move
-after_elsewhere : (from to : ℕ) (l : Link) → l.a ≢ from → l.b ≢ from → link_after from to l ≡ l
+pub after_elsewhere : (from to : ℕ) (l : Link) → l.a ≢ from → l.b ≢ from → link_after from to l ≡ l
 after_elsewhere from to l at_a at_b = λ i. record l { a = slot_kept from to l.a at_a i; b = slot_kept from to l.b at_b i }
 
 -- where the links of items moved, and these are all at the slot, all links at it moved

@@ -1,42 +1,39 @@
--- A pair of slots that was merged.
-use Rattle.std.proofs.Common.{◌≡◌, inl, inr, ℕ, ◌<◌, ◌/◌, Bool, List, length, sym, ap, ◌∙◌, subst}
+-- A pair of slots that no other link joins.
+use Rattle.std.proofs.Common.{◌≡◌, ◌≢◌, inl, inr, ℕ, ◌<◌, ◌/◌, List, length, sym, ◌∙◌, subst}
 use Rattle.std.specs.Prelude.{Contains}
-use Rattle.agglo_model.specs.Greedy.{Merge}
-use Rattle.agglo_model.specs.RegionGraph.{Region}
 use Rattle.mutual_merge.specs.declared.links.Link.{Link}
-use Rattle.mutual_merge.specs.Slots.{Covers, HasMergedPair, HasTakenOver, IsLive, IsLiveAt, Joins, merge_at, nth_link}
+use Rattle.mutual_merge.specs.Slots.{Covers, IsLiveAt, IsSlotLink, Joins, nth_link, other_end}
+use Rattle.mutual_merge.proofs.FirstPair.{ends_of}
 
--- a link that joins two slots is live at the first
-live_at_first : (l m : Link) → IsLive l → Joins l.a l.b m → IsLiveAt l.a m
-live_at_first l m live (inl (a, b)) = record { live = λ same. live (sym a ∙ same ∙ b); at_slot = inl a }
-live_at_first l m live (inr (a, b)) = record { live = λ same. live (sym b ∙ sym same ∙ a); at_slot = inr b }
+-- a link that joins the two slots of one at a slot is live there too
+live_at_too : (k : ℕ) (l m : Link) → IsLiveAt k l → Joins l.a l.b m → IsLiveAt k m
+live_at_too k l m at (inl (a, b)) = record {
+  live = λ same. at.live (sym a ∙ same ∙ b);
+  at_slot = elim at.at_slot [ inl is ↦ inl (a ∙ is) | inr is ↦ inr (b ∙ is) ];
+}
+live_at_too k l m at (inr (a, b)) = record {
+  live = λ same. at.live (sym b ∙ sym same ∙ a);
+  at_slot = elim at.at_slot [ inl is ↦ inr (b ∙ is) | inr is ↦ inl (a ∙ is) ];
+}
 
 -- the items of one slot's links show that no other link joins the same two slots
-pub single_by : (links : List Link) (items : List ℕ) (index : ℕ) → IsLive (nth_link links index) → Covers items links (nth_link links index).a
+pub single_by : (links : List Link) (items : List ℕ) (index k : ℕ) → IsLiveAt k (nth_link links index) → Covers items links k
     → ((j : ℕ) → Contains items j → Joins (nth_link links index).a (nth_link links index).b (nth_link links (j / 2)) → j / 2 ≡ index)
     → (j : ℕ) → j < length links → Joins (nth_link links index).a (nth_link links index).b (nth_link links j) → j ≡ index
-single_by links items index live covers alone j below joins =
-    let found = covers j below (live_at_first (nth_link links index) (nth_link links j) live joins) in
+single_by links items index k at covers alone j below joins =
+    let found = covers j below (live_at_too k (nth_link links index) (nth_link links j) at joins) in
     sym found.2 ∙ alone found.0 found.1
-    (subst (λ k. Joins (nth_link links index).a (nth_link links index).b (nth_link links k)) (sym found.2) joins)
+    (subst (λ m. Joins (nth_link links index).a (nth_link links index).b (nth_link links m)) (sym found.2) joins)
 
--- what is known of a pair that was merged
-pub record IsMergedBy (index : ℕ) (regions : List Region) (closed : List Bool) (links : List Link) (items : List ℕ) (link : Link) (merge : Merge) : Type 0 where
-  pub link_is : nth_link links index ≡ link
-  pub live : IsLive (nth_link links index)
-  pub covers : Covers items links link.a
-  pub alone : (j : ℕ) → Contains items j → Joins (nth_link links index).a (nth_link links index).b (nth_link links (j / 2)) → j / 2 ≡ index
-  pub merge_is : merge ≡ merge_at regions link
+-- a link's slot is one of those that there are, and its other slot is another one
+pub inside_at : (n k : ℕ) (l : Link) → IsLiveAt k l → IsSlotLink n l → k < n
+inside_at n k l at is = elim at.at_slot [
+  | inl same ↦ subst (λ s. s < n) same is.a_inside
+  | inr same ↦ subst (λ s. s < n) same is.b_inside
+]
 
-pub merged_pair : (index from to : ℕ) (regions : List Region) (closed : List Bool) (links : List Link) (items : List ℕ) (link : Link) (merge : Merge)
-    (new_regions : List Region) (new_closed : List Bool) (new_links : List Link) → IsMergedBy index regions closed links items link merge
-    → Joins from to link → HasTakenOver from to regions closed links new_regions new_closed new_links
-    → HasMergedPair index regions closed links new_regions new_closed new_links merge
-merged_pair index from to regions closed links items link merge new_regions new_closed new_links by joins taken = record {
-  merge_is = by.merge_is ∙ ap (merge_at regions) (sym by.link_is);
-  single = single_by links items index by.live (subst (λ (l : Link). Covers items links l.a) (sym by.link_is) by.covers) by.alone;
-  from = from;
-  to = to;
-  joins = subst (Joins from to) (sym by.link_is) joins;
-  taken = taken;
-}
+pub apart_other : (k : ℕ) (l : Link) → IsLiveAt k l → k ≢ other_end k l
+apart_other k l at same = elim (ends_of k l at) [
+  | inl (a, b) ↦ at.live (a ∙ same ∙ sym b)
+  | inr (a, b) ↦ at.live (a ∙ sym same ∙ sym b)
+]

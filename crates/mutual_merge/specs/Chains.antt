@@ -6,7 +6,8 @@ use Rattle.mutual_merge.specs.declared.links.Link.{Link}
 use Rattle.mutual_merge.specs.declared.chains.End.{End}
 use Rattle.mutual_merge.specs.declared.chains.End.TheVariants.{Pair, Weak, Held}
 use Rattle.mutual_merge.specs.declared.slots.Slots.{Slots}
-use Rattle.mutual_merge.specs.Slots.{AreListedSlots, IsFirstAt, IsFirstPairAt}
+use Rattle.mutual_merge.specs.Indexed.{IsIndexed}
+use Rattle.mutual_merge.specs.Slots.{IsFirstAt, IsFirstPairAt}
 
 -- a pair at which it ends is first at both slots, free and above the threshold
 abbrev pub IsEnd : Threshold → ℕ → List Region → List Link → End → Type 0
@@ -16,7 +17,7 @@ IsEnd t faces regions links Held = Unit {0}
 
 -- The chain has come to a slot and knows its first link. What lists hold aside, the slots are as they were before.
 pub record IsOnChain (before now : Slots) (last : ℕ) (first : Option ℕ) : Type 0 where
-  pub listed : AreListedSlots now.regions.items now.closed.items now.links.items now.lists now.marks.items
+  pub indexed : IsIndexed now
   pub regions_stay : now.regions ≡ before.regions
   pub closed_stay : now.closed ≡ before.closed
   pub links_stay : now.links ≡ before.links

@@ -6,6 +6,9 @@ pub mod Left
 pub mod Trimmed
 pub mod Rounds
 pub mod Slots
+pub mod HubEntries
+pub mod Hubs
 pub mod Moved
 pub mod Closing
+pub mod Indexed
 pub mod Chains

@@ -78,6 +78,12 @@ pub record AreGathered (old new : List Link) : Type 0 where
   pub fewer : live_edges new ≤ live_edges old
   pub contacts : (name : ℕ → ℕ) → SameContactsBy name new name old
 
+-- Of the link of index i, which may have been added to another one, that of index `kept` is left. Each other link that
+-- is live is as it was.
+pub record IsKeptOf (i kept : ℕ) (old new : List Link) : Type 0 where
+  pub inside : kept < length old
+  pub others : (j : ℕ) → j ≢ kept → IsLive (nth_link new j) → (j ≢ i) × (nth_link new j ≡ nth_link old j)
+
 -- The link of index i joins a reciprocal pair: the regions of both slots are free, the contact reaches the threshold,
 -- no live link at either slot comes before it, and no other joins the two.
 pub record IsReciprocalAt (t : Threshold) (faces : ℕ) (regions : List Region) (links : List Link) (i : ℕ) : Type 0 where

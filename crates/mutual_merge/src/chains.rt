@@ -4,7 +4,6 @@ ghost use Rattle.mutual_merge.specs.Linked.{AreLinked};
 ghost use Rattle.mutual_merge.specs.Rounds.{HasMerged};
 ghost use Rattle.mutual_merge.specs.Slots.{
   AreFree,
-  AreListedSlots,
   HaveMergedInto,
   HasNotedPair,
   IsLive,
@@ -12,6 +11,7 @@ ghost use Rattle.mutual_merge.specs.Slots.{
   nth_link,
 };
 ghost use Rattle.mutual_merge.specs.Chains.{IsEnd};
+ghost use Rattle.mutual_merge.specs.Indexed.{IsIndexed};
 
 use crate::closing::close;
 use crate::links::Link;
@@ -109,8 +109,8 @@ impl Merging {
         threshold: &Threshold,
         frozen: u8,
     ) -> Result<(), Memory>
-        requires { AreListedSlots slots.old.regions.items slots.old.closed.items slots.old.links.items slots.old.lists slots.old.marks.items }
-        ensures listed { IfOk result (λ _. AreListedSlots slots.new.regions.items slots.new.closed.items slots.new.links.items slots.new.lists slots.new.marks.items) }
+        requires { IsIndexed slots.old }
+        ensures indexed { IfOk result (λ _. IsIndexed slots.new) }
         ensures merged { IfOk result (λ _. (graph : RegionGraph)
             → HaveMergedInto threshold.now frozen graph self.old.merges.items slots.old.regions.items slots.old.closed.items slots.old.links.items
             → HaveMergedInto threshold.now frozen graph self.new.merges.items slots.new.regions.items slots.new.closed.items slots.new.links.items) }
@@ -134,9 +134,9 @@ impl Merging {
         threshold: &Threshold,
         frozen: u8,
     ) -> Result<(), Memory>
-        requires listed { AreListedSlots slots.old.regions.items slots.old.closed.items slots.old.links.items slots.old.lists slots.old.marks.items }
+        requires indexed { IsIndexed slots.old }
         requires inside { last < length slots.old.regions.items }
-        ensures listed { IfOk result (λ _. AreListedSlots slots.new.regions.items slots.new.closed.items slots.new.links.items slots.new.lists slots.new.marks.items) }
+        ensures indexed { IfOk result (λ _. IsIndexed slots.new) }
         ensures merged { IfOk result (λ _. (graph : RegionGraph)
             → HaveMergedInto threshold.now frozen graph self.old.merges.items slots.old.regions.items slots.old.closed.items slots.old.links.items
             → HaveMergedInto threshold.now frozen graph self.new.merges.items slots.new.regions.items slots.new.closed.items slots.new.links.items) }
@@ -176,9 +176,9 @@ impl Merging {
         threshold: &Threshold,
         frozen: u8,
     ) -> Result<End, Memory>
-        requires listed { AreListedSlots slots.old.regions.items slots.old.closed.items slots.old.links.items slots.old.lists slots.old.marks.items }
+        requires indexed { IsIndexed slots.old }
         requires inside { start < length slots.old.regions.items }
-        ensures listed { IfOk result (λ _. AreListedSlots slots.new.regions.items slots.new.closed.items slots.new.links.items slots.new.lists slots.new.marks.items) }
+        ensures indexed { IfOk result (λ _. IsIndexed slots.new) }
         ensures regions { slots.new.regions ≡ slots.old.regions }
         ensures closed { slots.new.closed ≡ slots.old.closed }
         ensures links { slots.new.links ≡ slots.old.links }
@@ -236,10 +236,10 @@ impl Merging {
     /// Merges the pair of a link, whose slots stand in the place of the last of the chain then. Where another link
     /// joins the same two slots, nothing is merged, and the chain is given up.
     fn merge(&mut self, slots: &mut Slots, index: u32) -> Result<(), Memory>
-        requires listed { AreListedSlots slots.old.regions.items slots.old.closed.items slots.old.links.items slots.old.lists slots.old.marks.items }
+        requires indexed { IsIndexed slots.old }
         requires inside { index < length slots.old.links.items }
         requires live { IsLive (nth_link slots.old.links.items index) }
-        ensures listed { IfOk result (λ _. AreListedSlots slots.new.regions.items slots.new.closed.items slots.new.links.items slots.new.lists slots.new.marks.items) }
+        ensures indexed { IfOk result (λ _. IsIndexed slots.new) }
         ensures merged { IfOk result (λ _. HasNotedPair index slots.old.regions.items slots.old.closed.items slots.old.links.items
             slots.new.regions.items slots.new.closed.items slots.new.links.items self.old.merges.items self.new.merges.items) }
     {

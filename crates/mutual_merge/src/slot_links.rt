@@ -1,4 +1,5 @@
-ghost use Rattle.std.specs.Prelude.{◌≡◌, ◌≢◌, ℕ, ◌<◌, ◌≤◌, ◌↔◌, ◌++◌, ◌/◌, [], ◌∷◌, All, Contains, IfSome, IsTrue, List, length};
+ghost use Rattle.std.specs.Prelude.{◌≡◌, ◌≢◌, ℕ, ◌<◌, ◌≤◌, ◌↔◌, ◌++◌, ◌/◌, [], ◌∷◌, All, Contains, IfOk, IfSome, IsTrue, List, length};
+ghost use Rattle.mutual_merge.specs.Hubs.{AreReady, AreReadyBut, links_of};
 ghost use Rattle.mutual_merge.specs.Slots.{
   AreGathered,
   AreItems,
@@ -6,6 +7,7 @@ ghost use Rattle.mutual_merge.specs.Slots.{
   AreTouching,
   HaveMovedEndsOf,
   IsFirstOf,
+  IsKeptOf,
   IsLiveAt,
   IsSlotLink,
   Joins,
@@ -17,7 +19,9 @@ ghost use Rattle.mutual_merge.specs.Slots.{
 };
 ghost use Rattle.agglo_model.specs.PairOrder.{most_edges};
 
+use crate::hubs::Hubs;
 use crate::links::Link;
+use agglo_model::Memory;
 use mean_fraction::rank;
 use std::cmp::Ordering;
 
@@ -56,7 +60,7 @@ fn earlier(links: &[Link], first: Option<u32>, index: u32, slot: u32) -> Option<
 }
 
 /// Whether a link joins the slot to another one.
-fn is_live_at(link: &Link, slot: u32) -> bool
+pub fn is_live_at(link: &Link, slot: u32) -> bool
     ensures { IsTrue result ↔ IsLiveAt slot link.now }
 {
     link.a != link.b && (link.a == slot || link.b == slot)
@@ -139,6 +143,18 @@ pub fn mark_partners(marks: &mut [u32], links: &[Link], items: &[u32], slot: u32
     }
 }
 
+/// Of the links that these items are ends of, one that joins these two slots.
+pub fn find_joining(links: &[Link], items: &[u32], one: u32, other: u32) -> Option<u32>
+    requires { AreItems (length links.now) items.now }
+{
+    for item in items {
+        if joins(&links[(item / 2) as usize], one, other) {
+            return Some(item / 2);
+        }
+    }
+    None
+}
+
 /// The other slot of a link at this one.
 pub fn other_end(link: &Link, slot: u32) -> u32
     ensures { result ≡ other_end slot link.now }
@@ -146,35 +162,47 @@ pub fn other_end(link: &Link, slot: u32) -> u32
     if link.a == slot { link.b } else { link.a }
 }
 
-/// Adds up the links of these items and those that join the same two slots by the marks. A mark is only a guess.
-pub fn add_up(links: &mut [Link], items: &[u32], marks: &[u32], slot: u32)
+/// Adds up the links of these items and those that join the same two slots by the marks, and notes at hubs what these
+/// items are links of then. A mark is only a guess.
+pub fn add_up(
+    links: &mut [Link],
+    items: &[u32],
+    marks: &[u32],
+    slot: u32,
+    hubs: &mut Hubs,
+) -> Result<(), Memory>
     requires links { AreSlotLinks (length marks.now) links.old }
     requires items { AreItems (length links.old) items.now }
-    ensures { AreGathered links.old links.new }
+    ensures gathered { AreGathered links.old links.new }
+    ensures ready { IfOk result (λ _. AreReadyBut links.old hubs.old (links_of items.now) → AreReady links.new hubs.new) }
 {
     for item in items {
         let index = item / 2;
-        let link = links[index as usize];
-        if is_live_at(&link, slot) {
-            add_double(links, marks[other_end(&link, slot) as usize], index);
-        }
+        let partner = other_end(&links[index as usize], slot);
+        let kept = add_double(links, marks[partner as usize], index);
+        hubs.note(links, kept)?;
     }
+    Ok(())
 }
 
 /// Where two different links join the same two slots, adds the contact of the second to the first; it is gone then.
-fn add_double(links: &mut [Link], into: u32, index: u32)
+/// The one that is left of the two; the second, where they do not join the same two slots.
+fn add_double(links: &mut [Link], into: u32, index: u32) -> u32
     requires inside { index < length links.old }
     requires within { live_edges links.old ≤ most_edges }
-    ensures { AreGathered links.old links.new }
+    ensures gathered { AreGathered links.old links.new }
+    ensures kept { IsKeptOf index result links.old links.new }
 {
     let link = links[index as usize];
     if into == index || into as usize >= links.len() || link.a == link.b {
-        return;
+        return index;
     }
     let other = links[into as usize];
-    if joins(&other, link.a, link.b) {
-        let contact = other.contact.add(link.contact);
-        links[into as usize] = Link { contact, ..other };
-        links[index as usize] = Link { b: link.a, ..link };
+    if !joins(&other, link.a, link.b) {
+        return index;
     }
+    let contact = other.contact.add(link.contact);
+    links[into as usize] = Link { contact, ..other };
+    links[index as usize] = Link { b: link.a, ..link };
+    into
 }

@@ -3,9 +3,11 @@ use Rattle.std.proofs.lemmas.List.{length-replicate}
 use Rattle.agglo_model.specs.Greedy.{Merge}
 use Rattle.agglo_model.specs.RegionGraph.{Region, grid_edges}
 use Rattle.mutual_merge.specs.declared.links.Link.{Link}
+use Rattle.mutual_merge.specs.Hubs.{AreReady}
+use Rattle.mutual_merge.specs.Indexed.{IsIndexed}
 use Rattle.mutual_merge.specs.Linked.{graph_of, link_edges, name_at}
 use Rattle.mutual_merge.specs.Rounds.{Carries}
-use Rattle.mutual_merge.specs.Slots.{AreListed, AreListedSlots, AreSlotLinks, AreSlots, HaveMergedInto, Stands, live_edges}
+use Rattle.mutual_merge.specs.Slots.{AreListed, AreSlotLinks, AreSlots, HaveMergedInto, Stands, live_edges}
 use Rattle.mutual_merge.proofs.LinkedEdges.{same_sums}
 use Rattle.mutual_merge.proofs.LinkedStands.{linked_stands}
 use Rattle.mutual_merge.proofs.Relinked.{AreSlotLinks-from_links, live_edges-le}
@@ -15,19 +17,21 @@ use Rattle.mutual_merge.proofs.chains.merge_chains.Goals.{After-deref-3, In_ok-m
 grid_edges_are : (regions : List Region) (links : List Link) → grid_edges (graph_of regions links) ≡ link_edges links
 grid_edges_are regions links = same_sums (name_at regions) links
 
-listed_at_start : (c : In_ok-merging) → AreListedSlots c.in_ok-slots.slots.regions.items c.in_ok-slots.slots.closed.items
-    c.in_ok-slots.slots.links.items c.in_ok-slots.slots.lists c.in_ok-slots.slots.marks.items
-listed_at_start c =
+indexed_at_start : (c : In_ok-merging) → IsIndexed c.in_ok-slots.slots
+indexed_at_start c =
     let e = c.in_ok-slots.ensures in
     let n = length c.args.graph.regions.items in
     let as_many : n ≡ length c.in_ok-slots.slots.regions.items = sym (ap length e.regions) in
     record {
-      one_each = ap length e.closed ∙ length-replicate n false ∙ as_many;
-      links_are = subst (λ m. AreSlotLinks m c.in_ok-slots.slots.links.items) as_many
-          (subst (λ (ls : List Link). AreSlotLinks n ls) (sym e.links) (AreSlotLinks-from_links n c.args.graph.links.items c.requires.links_are));
-      listed = subst (λ m. AreListed m c.in_ok-slots.slots.links.items c.in_ok-slots.slots.lists) as_many
-          (subst (λ (ls : List Link). AreListed n ls c.in_ok-slots.slots.lists) (sym e.links) e.listed);
-      marked = e.marked ∙ as_many;
+      listed = record {
+        one_each = ap length e.closed ∙ length-replicate n false ∙ as_many;
+        links_are = subst (λ m. AreSlotLinks m c.in_ok-slots.slots.links.items) as_many
+            (subst (λ (ls : List Link). AreSlotLinks n ls) (sym e.links) (AreSlotLinks-from_links n c.args.graph.links.items c.requires.links_are));
+        listed = subst (λ m. AreListed m c.in_ok-slots.slots.links.items c.in_ok-slots.slots.lists) as_many
+            (subst (λ (ls : List Link). AreListed n ls c.in_ok-slots.slots.lists) (sym e.links) e.listed);
+        marked = e.marked ∙ as_many;
+      };
+      ready = subst (λ (ls : List Link). AreReady ls c.in_ok-slots.slots.hubs) (sym e.links) e.ready;
     }
 
 pub loop-slot-init : goal.loop-slot-init
@@ -38,7 +42,7 @@ loop-slot-init c =
     let t = c.args.threshold.now in
     let start = graph_of regions links in
     let e = c.in_ok-slots.ensures in (
-      listed_at_start c,
+      indexed_at_start c,
       subst (λ (ms : List Merge). HaveMergedInto t c.args.frozen start ms slots.regions.items slots.closed.items slots.links.items) (sym c.in_ok-merging.ensures)
           (subst (λ (rs : List Region). HaveMergedInto t c.args.frozen start [] rs slots.closed.items slots.links.items) (sym e.regions)
           (subst (λ (bs : List Bool). HaveMergedInto t c.args.frozen start [] regions bs slots.links.items) (sym e.closed)
