@@ -8,6 +8,7 @@
 mod chains;
 mod closing;
 mod firsts;
+mod hub_pairs;
 mod hubs;
 mod links;
 mod listing;

@@ -18,6 +18,7 @@ ghost use Rattle.mutual_merge.specs.Slots.{
   nth_link,
 };
 
+use crate::hub_pairs::HubPairs;
 use crate::hubs::Hubs;
 use crate::links::{Link, name_of};
 use crate::listing::{copy_items, list_links};
@@ -43,6 +44,7 @@ pub struct Slots {
     pub lists: Lists,
     pub marks: Vec<u32>,
     pub hubs: Hubs,
+    pub pairs: HubPairs,
 }
 
 /// A slot with more links than these becomes a hub when they are looked at.
@@ -74,6 +76,7 @@ impl Slots {
             lists,
             marks,
             hubs: Hubs::open(alloc, count)?,
+            pairs: HubPairs::new(alloc),
         })
     }
 
@@ -107,6 +110,7 @@ impl Slots {
             return Ok(());
         }
         self.hubs.raise(slot, &self.links, items)?;
+        self.pairs.note(&self.hubs, &self.links, items, slot)?;
         Ok(())
     }
 
@@ -198,7 +202,7 @@ impl Slots {
         Ok(())
     }
 
-    /// Marks a slot with the number of a link that joins it to another one, if there is one in its list.
+    /// Marks a slot with the number of a link that joins it to a hub, if one is found.
     fn mark_joined(&mut self, slot: u32, to: u32, room: &mut Vec<u32>) -> Result<(), Memory>
         requires indexed { IsIndexed self.old }
         requires inside { slot < length self.old.regions.items }
@@ -207,11 +211,13 @@ impl Slots {
         ensures closed { self.new.closed ≡ self.old.closed }
         ensures links { self.new.links ≡ self.old.links }
     {
-        if slot == to || self.hubs.is_hub(slot) {
-            return Ok(());
-        }
-        self.gather_at(slot, room)?;
-        if let Some(index) = find_joining(&self.links, room, slot, to) {
+        let index = if self.hubs.is_hub(slot) {
+            self.pairs.find(slot, to)
+        } else {
+            self.gather_at(slot, room)?;
+            find_joining(&self.links, room, slot, to)
+        };
+        if let Some(index) = index {
             self.marks[slot as usize] = index;
         }
         Ok(())
@@ -241,8 +247,11 @@ impl Slots {
             return Ok(None);
         }
         let link = self.links[index as usize];
+        let to = other_end(&link, from);
         let merge = merge_of(&self.regions, &link);
-        self.take_over(from, other_end(&link, from), items)?;
+        self.pairs.forget(&self.hubs, &self.links, items, from);
+        self.take_over(from, to, items)?;
+        self.pairs.note(&self.hubs, &self.links, items, to)?;
         Ok(Some(merge))
     }
 
