@@ -1,8 +1,8 @@
 -- Hubs stay ready: of each live link at a hub there is an entry.
-use Rattle.std.proofs.Common.{◌≡◌, ◌≢◌, ◌⊎◌, inl, inr, ℕ, ◌+◌, ◌<◌, List, [], ◌∷◌, ◌++◌, length, get_or, set, sym, ap, ◌∙◌, subst, arith}
+use Rattle.std.proofs.Common.{◌≡◌, ◌≢◌, ◌⊎◌, inl, inr, ℕ, ◌+◌, ◌<◌, ◌≤◌, List, [], ◌∷◌, ◌++◌, length, get_or, set, sym, ap, ◌∙◌, subst, arith, Vec, Global}
 use Rattle.std.specs.Prelude.{Contains, IsPermutation}
 use Rattle.std.proofs.lemmas.Bool.{cases_eq, cases_lt}
-use Rattle.std.proofs.lemmas.List.{get_or-set_other, get_or-set_same, get_or_append_left, length-append, length-set}
+use Rattle.std.proofs.lemmas.List.{get_or-set_other, get_or-set_same, get_or_append_left, get_or_past, get_or_read, length-append, length-set}
 use Rattle.std.proofs.lemmas.List.Sorted.{Contains-permutation}
 use Rattle.std.proofs.Math.Seq.{get_or-append_seam}
 use Rattle.agglo_model.specs.PairOrder.{IsWithinLimits}
@@ -12,12 +12,21 @@ use Rattle.mutual_merge.specs.declared.hubs.Hubs.{Hubs}
 use Rattle.mutual_merge.specs.declared.hubs.TheConstants.{NONE}
 use Rattle.mutual_merge.specs.declared.links.Link.{Link}
 use Rattle.mutual_merge.specs.HubEntries.{HubEntries}
-use Rattle.mutual_merge.specs.Hubs.{AreReady, AreReadyBut, HasGained, IsAmong, IsHub, TellAll, entries_at, entry_of, nth_hub, number_at}
+use Rattle.mutual_merge.specs.Hubs.{AreReady, AreReadyBut, HasGained, HasSameEntries, IsAmong, IsHub, TellAll, entries_at, entry_of, nth_hub, number_at}
 use Rattle.mutual_merge.specs.Slots.{IsLiveAt, nth_link}
 
 -- what is past the end of a list of hubs
 abbrev no_hub : HubEntries
 no_hub = record { slot = 0; entries = [] }
+
+-- the hub that a read of this number gives
+pub read_hub : (hubs : Hubs) (number : ℕ) (hub : HubEntries) → number < length hubs.hubs.items → hub ≡ get_or hubs.hubs.items number hub
+    → nth_hub hubs number ≡ hub
+read_hub hubs number hub there read = sym (get_or_read hubs.hubs.items number hub there read no_hub)
+
+-- a number that is that of a hub is one of those that there are
+pub number_inside : (hubs : Hubs) (number k : ℕ) → number ≡ number_at hubs k → IsHub hubs k → number < length hubs.hubs.items
+number_inside hubs number k at is = subst (λ n. n < length hubs.hubs.items) (sym at) is.there
 
 -- One hub was written, for the same slot.
 pub record HasWritten (number : ℕ) (hub : HubEntries) (old new : Hubs) : Type 0 where
@@ -206,3 +215,74 @@ module _ (slot : ℕ) (hub : HubEntries) (old new : Hubs) (raised : HasRaised sl
           own = sym (ap (λ (b : HubEntries). b.slot) same) ∙ is.own;
         }))
   ]
+
+-- The hub of a slot was written, and the slot has no number now.
+pub record HasClosed (slot number : ℕ) (hub : HubEntries) (old new : Hubs) : Type 0 where
+  pub numbers_are : new.numbers.items ≡ set old.numbers.items slot NONE
+  pub hubs_are : new.hubs.items ≡ set old.hubs.items number hub
+  pub slot_there : slot < length old.numbers.items
+  pub there : number < length old.hubs.items
+  pub own : hub.slot ≡ slot
+
+pub closed_ready : (links : List Link) (slot number : ℕ) (hub : HubEntries) (old new : Hubs) → HasClosed slot number hub old new
+    → AreReady links old → AreReady links new
+closed_ready links slot number hub old new closed ready k is = elim (cases_eq k slot) [
+  | inl same ↦
+      absurd (is.numbered (ap (number_at new) same ∙ ap (λ ns. get_or ns slot NONE) closed.numbers_are
+      ∙ get_or-set_same old.numbers.items slot NONE NONE closed.slot_there))
+  | inr other ↦ by_number other (cases_eq (number_at old k) number)
+]
+  where
+    by_number : k ≢ slot → (number_at old k ≡ number) ⊎ (number_at old k ≢ number) → TellAll (entries_at new k) links k
+    by_number other at =
+        let same_number : number_at new k ≡ number_at old k =
+        ap (λ ns. get_or ns k NONE) closed.numbers_are ∙ get_or-set_other old.numbers.items slot k NONE NONE other in
+        elim at [
+          | inl same ↦
+              absurd (other (sym is.own ∙ ap (λ n. (nth_hub new n).slot) (same_number ∙ same)
+              ∙ ap (λ hs. (get_or hs number no_hub).slot) closed.hubs_are
+              ∙ ap (λ (b : HubEntries). b.slot) (get_or-set_same old.hubs.items number hub no_hub closed.there) ∙ closed.own))
+          | inr apart ↦
+              let stays : nth_hub new (number_at new k) ≡ nth_hub old (number_at old k) =
+              ap (nth_hub new) same_number ∙ ap (λ hs. get_or hs (number_at old k) no_hub) closed.hubs_are
+              ∙ get_or-set_other old.hubs.items number (number_at old k) hub no_hub apart in
+              subst (λ (b : HubEntries). TellAll b.entries links k) (sym stays)
+              (ready k (record {
+                numbered = subst (λ n. n ≢ NONE) same_number is.numbered;
+                there =
+                    subst (λ n. n < length old.hubs.items) same_number
+                    (subst (λ n. number_at new k < n) (ap length closed.hubs_are ∙ length-set old.hubs.items number hub) is.there);
+                own = sym (ap (λ (b : HubEntries). b.slot) stays) ∙ is.own;
+              }))
+        ]
+
+-- a slot past the end has no number
+pub past_numbers : (hubs : Hubs) (k : ℕ) → length hubs.numbers.items ≤ k → number_at hubs k ≡ NONE
+past_numbers hubs k past = get_or_past hubs.numbers.items k NONE past
+
+pub hub_inside : (hubs : Hubs) (k : ℕ) → IsHub hubs k → k < length hubs.numbers.items
+hub_inside hubs k is = elim (cases_lt k (length hubs.numbers.items)) [
+  | inl below ↦ below
+  | inr past ↦ absurd (is.numbered (past_numbers hubs k past))
+]
+
+-- what is ready stays so while the entries do
+pub same_ready : (links : List Link) (old new : Hubs) → HasSameEntries old new → AreReady links old → AreReady links new
+same_ready links old new same ready k is =
+    subst (λ es. TellAll es links k) (sym (entries_stay (number_at new k) ∙ ap (λ n. (nth_hub old n).entries) (number_stays k)))
+    (ready k (record {
+      numbered = subst (λ n. n ≢ NONE) (number_stays k) is.numbered;
+      there =
+          subst (λ n. n < length old.hubs.items) (number_stays k)
+          (subst (λ n. number_at new k < n) (ap (λ (hs : Vec HubEntries Global). length hs.items) same.hubs_stay) is.there);
+      own = ap (λ n. (nth_hub old n).slot) (sym (number_stays k)) ∙ sym (slot_stays (number_at new k)) ∙ is.own;
+    }))
+  where
+    number_stays : (j : ℕ) → number_at new j ≡ number_at old j
+    number_stays j = ap (λ (ns : Vec ℕ Global). get_or ns.items j NONE) same.numbers_stay
+
+    entries_stay : (h : ℕ) → (nth_hub new h).entries ≡ (nth_hub old h).entries
+    entries_stay h = ap (λ (hs : Vec HubEntries Global). (get_or hs.items h no_hub).entries) same.hubs_stay
+
+    slot_stays : (h : ℕ) → (nth_hub new h).slot ≡ (nth_hub old h).slot
+    slot_stays h = ap (λ (hs : Vec HubEntries Global). (get_or hs.items h no_hub).slot) same.hubs_stay

@@ -8,7 +8,6 @@
 mod chains;
 mod closing;
 mod firsts;
-mod hub_pairs;
 mod hubs;
 mod links;
 mod listing;

@@ -18,7 +18,6 @@ ghost use Rattle.mutual_merge.specs.Slots.{
   nth_link,
 };
 
-use crate::hub_pairs::HubPairs;
 use crate::hubs::Hubs;
 use crate::links::{Link, name_of};
 use crate::listing::{SlotItems, copy_items, list_links};
@@ -45,7 +44,6 @@ pub struct Slots {
     pub lists: Lists,
     pub marks: Vec<u32>,
     pub hubs: Hubs,
-    pub pairs: HubPairs,
 }
 
 /// A slot with more links than these becomes a hub when they are looked at.
@@ -77,7 +75,6 @@ impl Slots {
             lists,
             marks,
             hubs: Hubs::open(alloc, count)?,
-            pairs: HubPairs::new(alloc),
         })
     }
 
@@ -120,7 +117,6 @@ impl Slots {
             return Ok(());
         }
         self.hubs.raise(slot, &self.links, &room.items)?;
-        self.pairs.note(&self.hubs, &self.links, &room.items, slot)?;
         Ok(())
     }
 
@@ -233,7 +229,7 @@ impl Slots {
         ensures known { IfOk result (λ _. AreKnown room.new self.old.links.items) }
     {
         let index = if self.hubs.is_hub(slot) {
-            self.pairs.find(slot, to)
+            self.hubs.link_between(slot, to)
         } else {
             self.gather_at(slot, room)?;
             find_joining(&self.links, &room.items, slot, to)
@@ -268,11 +264,8 @@ impl Slots {
             return Ok(None);
         }
         let link = self.links[index as usize];
-        let to = other_end(&link, from);
         let merge = merge_of(&self.regions, &link);
-        self.pairs.forget(&self.hubs, &self.links, items, from);
-        self.take_over(from, to, items)?;
-        self.pairs.note(&self.hubs, &self.links, items, to)?;
+        self.take_over(from, other_end(&link, from), items)?;
         Ok(Some(merge))
     }
 

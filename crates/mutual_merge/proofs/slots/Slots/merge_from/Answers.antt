@@ -6,35 +6,35 @@ use Rattle.mutual_merge.proofs.SlotFirsts.{other_inside, read_link, slot_link_at
 use Rattle.mutual_merge.proofs.FirstPair.{ends_of}
 use Rattle.mutual_merge.proofs.MergedPairs.{apart_other, inside_at, single_by}
 use Rattle.mutual_merge.proofs.slots.Slots.merge_from.Goals as goal
-use Rattle.mutual_merge.proofs.slots.Slots.merge_from.Goals.{After-other_end-to}
+use Rattle.mutual_merge.proofs.slots.Slots.merge_from.Goals.{After-other_end}
 
-link_is : (c : After-other_end-to) → nth_link c.args.self.now.links.items c.args.index ≡ c.index.result.now
+link_is : (c : After-other_end) → nth_link c.args.self.now.links.items c.args.index ≡ c.index.result.now
 link_is c = read_link c.args.self.now.links.items c.args.index c.index.result.now c.requires.inside c.index.ensures
 
-at_slot : (c : After-other_end-to) → IsLiveAt c.args.from c.index.result.now
+at_slot : (c : After-other_end) → IsLiveAt c.args.from c.index.result.now
 at_slot c = subst (IsLiveAt c.args.from) (link_is c) c.requires.at_slot
 
-slot_link : (c : After-other_end-to) → IsSlotLink (length c.args.self.now.regions.items) c.index.result.now
+slot_link : (c : After-other_end) → IsSlotLink (length c.args.self.now.regions.items) c.index.result.now
 slot_link c =
     slot_link_at (length c.args.self.now.regions.items) c.args.self.now.links.items c.args.index c.index.result.now
     c.requires.indexed.listed.links_are.each c.requires.inside c.index.ensures
 
 pub take_over-requires : goal.take_over-requires
 take_over-requires c =
-    let at = (goal.at.take_over-requires c).After-other_end-to in
+    let at = (goal.at.take_over-requires c).After-other_end in
     let n = length c.args.self.now.regions.items in
     record {
-      indexed = record { listed = c.requires.indexed.listed; ready = c.requires.indexed.ready };
+      indexed = c.requires.indexed;
       from = inside_at n c.args.from c.index.result.now (at_slot at) (slot_link at);
-      to = subst (λ k. k < n) (sym c.other_end-to.ensures) (other_inside n c.args.from c.index.result.now (slot_link at));
-      apart = subst (λ k. c.args.from ≢ k) (sym c.other_end-to.ensures) (apart_other c.args.from c.index.result.now (at_slot at));
+      to = subst (λ k. k < n) (sym c.other_end.ensures) (other_inside n c.args.from c.index.result.now (slot_link at));
+      apart = subst (λ k. c.args.from ≢ k) (sym c.other_end.ensures) (apart_other c.args.from c.index.result.now (at_slot at));
       covers = c.requires.covers;
       items = c.requires.items;
     }
 
 pub returns-clause-tried : goal.returns-clause-tried
 returns-clause-tried c =
-    let at = (goal.at.returns-clause-tried c).After-other_end-to in
+    let at = (goal.at.returns-clause-tried c).After-other_end in
     let links : List Link = c.args.self.now.links.items in
     let items : List ℕ = c.args.items.now in
     let index = c.args.index in
@@ -47,9 +47,9 @@ returns-clause-tried c =
           → Joins (nth_link ls index).a (nth_link ls index).b (nth_link ls (j / 2)) → j / 2 ≡ index)
           c.deref.ensures.value (c.is_single.ensures single));
       from = c.args.from;
-      to = c.other_end-to.result;
+      to = c.other_end.result;
       joins =
           subst (λ k. Joins c.args.from k (nth_link links index))
-          (ap (other_end c.args.from) (link_is at) ∙ sym c.other_end-to.ensures) (ends_of c.args.from (nth_link links index) c.requires.at_slot);
+          (ap (other_end c.args.from) (link_is at) ∙ sym c.other_end.ensures) (ends_of c.args.from (nth_link links index) c.requires.at_slot);
       taken = c.in_ok-take_over.ensures.taken;
     }
