@@ -11,10 +11,11 @@ ghost use Rattle.mutual_merge.specs.Slots.{
   nth_link,
 };
 ghost use Rattle.mutual_merge.specs.Chains.{IsEnd};
-ghost use Rattle.mutual_merge.specs.Indexed.{IsIndexed};
+ghost use Rattle.mutual_merge.specs.Indexed.{AreKnown, IsIndexed};
 
 use crate::closing::close;
 use crate::links::Link;
+use crate::listing::SlotItems;
 use crate::merging::LinkedGraph;
 use crate::pairs::is_free;
 use crate::slot_links::other_end;
@@ -25,6 +26,7 @@ use merge_tree::Merge;
 use region_graph::Region;
 use std::alloc::Global;
 use std::cmp::Ordering;
+use std::mem::swap;
 
 /// A graph after merges were made in it, and the merges.
 #[derive(Drop)]
@@ -78,14 +80,15 @@ enum End {
     Held,
 }
 
-/// The merges so far, the chain that is followed, the slots that wait for one that is held back, and room to work in.
+/// The merges so far, the chain that is followed, the slots that wait for one that is held back, and the items of the
+/// links at the last slots that were looked at.
 #[derive(Drop)]
 struct Merging {
     merges: Vec<Merge>,
     chain: Vec<u32>,
     held: Vec<bool>,
-    one: Vec<u32>,
-    other: Vec<u32>,
+    one: SlotItems,
+    other: SlotItems,
 }
 
 impl Merging {
@@ -96,8 +99,8 @@ impl Merging {
             merges: Vec::new(alloc),
             chain: Vec::new(alloc),
             held: Vec::from_elem(alloc, false, slots)?,
-            one: Vec::new(alloc),
-            other: Vec::new(alloc),
+            one: SlotItems::new(alloc),
+            other: SlotItems::new(alloc),
         })
     }
 
@@ -183,8 +186,12 @@ impl Merging {
         ensures closed { slots.new.closed ≡ slots.old.closed }
         ensures links { slots.new.links ≡ slots.old.links }
         ensures merges { self.new.merges ≡ self.old.merges }
+        ensures one { IfOk result (λ _. AreKnown self.new.one slots.old.links.items) }
+        ensures other { IfOk result (λ _. AreKnown self.new.other slots.old.links.items) }
         ensures end { IfOk result (λ end. IsEnd threshold.now frozen slots.old.regions.items slots.old.links.items end) }
     {
+        self.one.forget();
+        self.other.forget();
         let mut last = start;
         let mut first = slots.first_of(last, &mut self.one)?;
         for _ in 0..u64::MAX {
@@ -199,7 +206,7 @@ impl Merging {
                 return Ok(End::Held);
             }
             let partner = other_end(&link, last);
-            let next = slots.first_of(partner, &mut self.one)?;
+            let next = slots.first_of(partner, &mut self.other)?;
             if next == Some(index) {
                 return Ok(End::Pair(index));
             }
@@ -207,6 +214,7 @@ impl Merging {
                 return Ok(End::Weak);
             }
             self.chain.push(partner)?;
+            swap(&mut self.one, &mut self.other);
             last = partner;
             first = next;
         }
@@ -239,6 +247,8 @@ impl Merging {
         requires indexed { IsIndexed slots.old }
         requires inside { index < length slots.old.links.items }
         requires live { IsLive (nth_link slots.old.links.items index) }
+        requires one { AreKnown self.old.one slots.old.links.items }
+        requires other { AreKnown self.old.other slots.old.links.items }
         ensures indexed { IfOk result (λ _. IsIndexed slots.new) }
         ensures merged { IfOk result (λ _. HasNotedPair index slots.old.regions.items slots.old.closed.items slots.old.links.items
             slots.new.regions.items slots.new.closed.items slots.new.links.items self.old.merges.items self.new.merges.items) }

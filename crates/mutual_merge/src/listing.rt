@@ -1,4 +1,4 @@
-ghost use Rattle.std.specs.Prelude.{◌≡◌, ◌<◌, ◌≤◌, ◌^◌, All, IfOk, length};
+ghost use Rattle.std.specs.Prelude.{◌≡◌, ◌<◌, ◌≤◌, ◌^◌, All, IfOk, None, length};
 ghost use Rattle.mutual_merge.specs.Linked.{IsLink, link_edges};
 ghost use Rattle.agglo_model.specs.PairOrder.{most_edges};
 ghost use Rattle.index_lists.specs.LinkedLists.{AreLists, list_at};
@@ -22,6 +22,32 @@ pub fn list_links(alloc: Global, links: &[Link], slots: u32) -> Result<Lists, Me
         lists.push_front(link.b, item + 1);
     }
     Ok(lists)
+}
+
+/// The items of the links at one slot, as they were when they were gathered; of none before that.
+#[derive(Drop)]
+pub struct SlotItems {
+    pub slot: Option<u32>,
+    pub items: Vec<u32>,
+}
+
+impl SlotItems {
+    /// Those of no slot.
+    pub fn new(alloc: Global) -> SlotItems
+        ensures { result.slot ≡ None }
+    {
+        SlotItems {
+            slot: None,
+            items: Vec::new(alloc),
+        }
+    }
+
+    /// Gives them up, as links may have changed.
+    pub fn forget(&mut self)
+        ensures { self.new.slot ≡ None }
+    {
+        self.slot = None;
+    }
 }
 
 /// Copies the items of a slot's links into a vector, in the place of what it had. Items of links that are gone leave

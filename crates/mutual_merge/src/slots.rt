@@ -1,6 +1,6 @@
-ghost use Rattle.std.specs.Prelude.{◌≡◌, ◌≢◌, ◌<◌, ◌^◌, false, IfOk, length, replicate};
+ghost use Rattle.std.specs.Prelude.{◌≡◌, ◌≢◌, ◌<◌, ◌^◌, false, IfOk, Some, length, replicate};
 ghost use Rattle.mutual_merge.specs.Hubs.{AreReady};
-ghost use Rattle.mutual_merge.specs.Indexed.{IsIndexed};
+ghost use Rattle.mutual_merge.specs.Indexed.{AreKnown, IsIndexed};
 ghost use Rattle.mutual_merge.specs.Linked.{AreLinked};
 ghost use Rattle.mutual_merge.specs.Slots.{
   AreGathered,
@@ -20,7 +20,7 @@ ghost use Rattle.mutual_merge.specs.Slots.{
 
 use crate::hubs::Hubs;
 use crate::links::{Link, name_of};
-use crate::listing::{copy_items, list_links};
+use crate::listing::{SlotItems, copy_items, list_links};
 use crate::merging::LinkedGraph;
 use crate::slot_links::{
     add_up, find_joining, first_link, is_live_at, is_single, mark_partners, move_ends, other_end,
@@ -30,6 +30,7 @@ use index_lists::Lists;
 use merge_tree::Merge;
 use region_graph::Region;
 use std::alloc::Global;
+use std::mem::swap;
 
 /// A region graph while merges are made in it. Each region has a slot, which is closed when the region is taken into
 /// another one. Links join slots; a link from a slot to itself is gone. Each end of a link has an item in the list of
@@ -77,68 +78,82 @@ impl Slots {
         })
     }
 
-    /// Copies the items of a slot's links; those that are gone leave its list.
-    fn gather(&mut self, slot: u32, items: &mut Vec<u32>) -> Result<(), Memory>
+    /// Gathers the items of a slot's links, unless they are at hand; those that are gone leave its list.
+    fn gather(&mut self, slot: u32, room: &mut SlotItems) -> Result<(), Memory>
         requires indexed { IsIndexed self.old }
         requires inside { slot < length self.old.regions.items }
+        requires known { AreKnown room.old self.old.links.items }
         ensures indexed { IfOk result (λ _. IsIndexed self.new) }
         ensures regions { self.new.regions ≡ self.old.regions }
         ensures closed { self.new.closed ≡ self.old.closed }
         ensures links { self.new.links ≡ self.old.links }
-        ensures covers { IfOk result (λ _. Covers items.new.items self.old.links.items slot) }
-        ensures items { IfOk result (λ _. AreItems (length self.old.links.items) items.new.items) }
+        ensures slot { IfOk result (λ _. room.new.slot ≡ Some slot) }
+        ensures covers { IfOk result (λ _. Covers room.new.items.items self.old.links.items slot) }
+        ensures items { IfOk result (λ _. AreItems (length self.old.links.items) room.new.items.items) }
     {
-        copy_items(&mut self.lists, &self.links, slot, items)
-    }
-
-    /// The same, and a slot that has many links becomes a hub.
-    fn gather_at(&mut self, slot: u32, items: &mut Vec<u32>) -> Result<(), Memory>
-        requires indexed { IsIndexed self.old }
-        requires inside { slot < length self.old.regions.items }
-        ensures indexed { IfOk result (λ _. IsIndexed self.new) }
-        ensures regions { self.new.regions ≡ self.old.regions }
-        ensures closed { self.new.closed ≡ self.old.closed }
-        ensures links { self.new.links ≡ self.old.links }
-        ensures covers { IfOk result (λ _. Covers items.new.items self.old.links.items slot) }
-        ensures items { IfOk result (λ _. AreItems (length self.old.links.items) items.new.items) }
-    {
-        self.gather(slot, items)?;
-        if items.len() <= LONG {
+        if room.slot == Some(slot) {
             return Ok(());
         }
-        self.hubs.raise(slot, &self.links, items)?;
+        copy_items(&mut self.lists, &self.links, slot, &mut room.items)?;
+        room.slot = Some(slot);
         Ok(())
     }
 
-    /// The first link at a slot, by its index. A slot that has many links becomes a hub. `items` is room to work in.
-    pub fn first_of(&mut self, slot: u32, items: &mut Vec<u32>) -> Result<Option<u32>, Memory>
+    /// The same, and a slot that has many links becomes a hub.
+    fn gather_at(&mut self, slot: u32, room: &mut SlotItems) -> Result<(), Memory>
         requires indexed { IsIndexed self.old }
         requires inside { slot < length self.old.regions.items }
+        requires known { AreKnown room.old self.old.links.items }
         ensures indexed { IfOk result (λ _. IsIndexed self.new) }
         ensures regions { self.new.regions ≡ self.old.regions }
         ensures closed { self.new.closed ≡ self.old.closed }
         ensures links { self.new.links ≡ self.old.links }
+        ensures slot { IfOk result (λ _. room.new.slot ≡ Some slot) }
+        ensures covers { IfOk result (λ _. Covers room.new.items.items self.old.links.items slot) }
+        ensures items { IfOk result (λ _. AreItems (length self.old.links.items) room.new.items.items) }
+    {
+        self.gather(slot, room)?;
+        if room.items.len() <= LONG {
+            return Ok(());
+        }
+        self.hubs.raise(slot, &self.links, &room.items)?;
+        Ok(())
+    }
+
+    /// The first link at a slot, by its index. A slot that has many links becomes a hub. What is gathered on the way
+    /// stays at hand for a merge.
+    pub fn first_of(&mut self, slot: u32, room: &mut SlotItems) -> Result<Option<u32>, Memory>
+        requires indexed { IsIndexed self.old }
+        requires inside { slot < length self.old.regions.items }
+        requires known { AreKnown room.old self.old.links.items }
+        ensures indexed { IfOk result (λ _. IsIndexed self.new) }
+        ensures regions { self.new.regions ≡ self.old.regions }
+        ensures closed { self.new.closed ≡ self.old.closed }
+        ensures links { self.new.links ≡ self.old.links }
+        ensures known { IfOk result (λ _. AreKnown room.new self.old.links.items) }
         ensures first { IfOk result (λ first. IsFirstAt self.old.links.items slot first) }
     {
         if self.hubs.is_hub(slot) {
             return Ok(self.hubs.first(&self.links, slot));
         }
-        self.gather_at(slot, items)?;
-        Ok(first_link(&self.links, items, slot))
+        self.gather_at(slot, room)?;
+        Ok(first_link(&self.links, &room.items, slot))
     }
 
     /// Merges the pair of a link; None, and all stays as it is, where another link joins the same two slots. Of both
     /// regions the one with fewer links is taken into the other, and the links of a hub are looked at only where these
-    /// are not far fewer. `one` and `other` are room to work in.
+    /// are not far fewer. `one` and `other` have the items at hand, and are room to work in.
     pub fn merge(
         &mut self,
         index: u32,
-        one: &mut Vec<u32>,
-        other: &mut Vec<u32>,
+        one: &mut SlotItems,
+        other: &mut SlotItems,
     ) -> Result<Option<Merge>, Memory>
         requires indexed { IsIndexed self.old }
         requires inside { index < length self.old.links.items }
         requires live { IsLive (nth_link self.old.links.items index) }
+        requires one { AreKnown one.old self.old.links.items }
+        requires other { AreKnown other.old self.old.links.items }
         ensures indexed { IfOk result (λ _. IsIndexed self.new) }
         ensures tried { IfOk result (λ made. IsPairTried index self.old.regions.items self.old.closed.items self.old.links.items
             self.new.regions.items self.new.closed.items self.new.links.items made) }
@@ -146,18 +161,21 @@ impl Slots {
         let link = self.links[index as usize];
         let from = self.lesser_end(&link);
         let to = other_end(&link, from);
+        if other.slot == Some(from) {
+            swap(one, other);
+        }
         self.gather(from, one)?;
-        if self.hubs.len_of(to) / SHARE > one.len() {
-            self.mark_shared(one, from, to, other)?;
-            return self.merge_from(index, from, one);
+        if self.hubs.len_of(to) / SHARE > one.items.len() {
+            self.mark_shared(&one.items, from, to, other)?;
+            return self.merge_from(index, from, &one.items);
         }
         self.gather(to, other)?;
-        if one.len() <= other.len() {
-            mark_partners(&mut self.marks, &self.links, other, to);
-            self.merge_from(index, from, one)
+        if one.items.len() <= other.items.len() {
+            mark_partners(&mut self.marks, &self.links, &other.items, to);
+            self.merge_from(index, from, &one.items)
         } else {
-            mark_partners(&mut self.marks, &self.links, one, from);
-            self.merge_from(index, to, other)
+            mark_partners(&mut self.marks, &self.links, &one.items, from);
+            self.merge_from(index, to, &other.items)
         }
     }
 
@@ -180,10 +198,11 @@ impl Slots {
         items: &[u32],
         from: u32,
         to: u32,
-        room: &mut Vec<u32>,
+        room: &mut SlotItems,
     ) -> Result<(), Memory>
         requires indexed { IsIndexed self.old }
         requires items { AreItems (length self.old.links.items) items.now }
+        requires known { AreKnown room.old self.old.links.items }
         ensures indexed { IfOk result (λ _. IsIndexed self.new) }
         ensures regions { self.new.regions ≡ self.old.regions }
         ensures closed { self.new.closed ≡ self.old.closed }
@@ -199,19 +218,21 @@ impl Slots {
     }
 
     /// Marks a slot with the number of a link that joins it to a hub, if one is found.
-    fn mark_joined(&mut self, slot: u32, to: u32, room: &mut Vec<u32>) -> Result<(), Memory>
+    fn mark_joined(&mut self, slot: u32, to: u32, room: &mut SlotItems) -> Result<(), Memory>
         requires indexed { IsIndexed self.old }
         requires inside { slot < length self.old.regions.items }
+        requires known { AreKnown room.old self.old.links.items }
         ensures indexed { IfOk result (λ _. IsIndexed self.new) }
         ensures regions { self.new.regions ≡ self.old.regions }
         ensures closed { self.new.closed ≡ self.old.closed }
         ensures links { self.new.links ≡ self.old.links }
+        ensures known { IfOk result (λ _. AreKnown room.new self.old.links.items) }
     {
         let index = if self.hubs.is_hub(slot) {
             self.hubs.link_between(slot, to)
         } else {
             self.gather_at(slot, room)?;
-            find_joining(&self.links, room, slot, to)
+            find_joining(&self.links, &room.items, slot, to)
         };
         if let Some(index) = index {
             self.marks[slot as usize] = index;

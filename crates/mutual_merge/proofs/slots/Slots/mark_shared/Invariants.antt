@@ -1,5 +1,5 @@
 use Rattle.std.proofs.Common.{◌≡◌}
-use Rattle.mutual_merge.specs.Indexed.{IsIndexed}
+use Rattle.mutual_merge.specs.Indexed.{AreKnown, IsIndexed}
 use Rattle.mutual_merge.proofs.slots.Slots.mark_shared.Given as goal
 
 abbrev pub invariant-loop-item : goal.invariant-loop-item
@@ -8,4 +8,5 @@ invariant-loop-item l = record {
   regions : l.self.regions ≡ l.fn.self.regions;
   closed : l.self.closed ≡ l.fn.self.closed;
   links : l.self.links ≡ l.fn.self.links;
+  known : AreKnown l.room l.self.links.items;
 }
