@@ -1,5 +1,5 @@
 -- Hubs stay ready: of each live link at a hub there is an entry.
-use Rattle.std.proofs.Common.{◌≡◌, ◌≢◌, ◌⊎◌, inl, inr, ℕ, ◌+◌, ◌<◌, ◌≤◌, List, [], ◌∷◌, ◌++◌, length, get_or, set, sym, ap, ◌∙◌, subst, arith}
+use Rattle.std.proofs.Common.{◌≡◌, ◌≢◌, ◌⊎◌, inl, inr, ℕ, ◌+◌, ◌<◌, ◌≤◌, List, [], ◌∷◌, ◌++◌, length, get_or, set, sym, ap, ◌∙◌, subst, arith, Vec, Global}
 use Rattle.std.specs.Prelude.{Contains, IsPermutation}
 use Rattle.std.proofs.lemmas.Bool.{cases_eq, cases_lt}
 use Rattle.std.proofs.lemmas.List.{get_or-set_other, get_or-set_same, get_or_append_left, get_or_past, get_or_read, length-append, length-set}
@@ -12,7 +12,7 @@ use Rattle.mutual_merge.specs.declared.hubs.Hubs.{Hubs}
 use Rattle.mutual_merge.specs.declared.hubs.TheConstants.{NONE}
 use Rattle.mutual_merge.specs.declared.links.Link.{Link}
 use Rattle.mutual_merge.specs.HubEntries.{HubEntries}
-use Rattle.mutual_merge.specs.Hubs.{AreReady, AreReadyBut, HasGained, IsAmong, IsHub, TellAll, entries_at, entry_of, nth_hub, number_at}
+use Rattle.mutual_merge.specs.Hubs.{AreReady, AreReadyBut, HasGained, HasSameEntries, IsAmong, IsHub, TellAll, entries_at, entry_of, nth_hub, number_at}
 use Rattle.mutual_merge.specs.Slots.{IsLiveAt, nth_link}
 
 -- what is past the end of a list of hubs
@@ -265,3 +265,24 @@ hub_inside hubs k is = elim (cases_lt k (length hubs.numbers.items)) [
   | inl below ↦ below
   | inr past ↦ absurd (is.numbered (past_numbers hubs k past))
 ]
+
+-- what is ready stays so while the entries do
+pub same_ready : (links : List Link) (old new : Hubs) → HasSameEntries old new → AreReady links old → AreReady links new
+same_ready links old new same ready k is =
+    subst (λ es. TellAll es links k) (sym (entries_stay (number_at new k) ∙ ap (λ n. (nth_hub old n).entries) (number_stays k)))
+    (ready k (record {
+      numbered = subst (λ n. n ≢ NONE) (number_stays k) is.numbered;
+      there =
+          subst (λ n. n < length old.hubs.items) (number_stays k)
+          (subst (λ n. number_at new k < n) (ap (λ (hs : Vec HubEntries Global). length hs.items) same.hubs_stay) is.there);
+      own = ap (λ n. (nth_hub old n).slot) (sym (number_stays k)) ∙ sym (slot_stays (number_at new k)) ∙ is.own;
+    }))
+  where
+    number_stays : (j : ℕ) → number_at new j ≡ number_at old j
+    number_stays j = ap (λ (ns : Vec ℕ Global). get_or ns.items j NONE) same.numbers_stay
+
+    entries_stay : (h : ℕ) → (nth_hub new h).entries ≡ (nth_hub old h).entries
+    entries_stay h = ap (λ (hs : Vec HubEntries Global). (get_or hs.items h no_hub).entries) same.hubs_stay
+
+    slot_stays : (h : ℕ) → (nth_hub new h).slot ≡ (nth_hub old h).slot
+    slot_stays h = ap (λ (hs : Vec HubEntries Global). (get_or hs.items h no_hub).slot) same.hubs_stay

@@ -68,3 +68,8 @@ pub record HasGained (k i : ℕ) (l : Link) (old new : Hubs) : Type 0 where
   pub same_hubs : (j : ℕ) → IsHub new j ↔ IsHub old j
   pub kept : (j : ℕ) (entry : Entry) → HasEntry old j entry → HasEntry new j entry
   pub gained : IsHub new k → IsAmong (entries_at new k) i l
+
+-- the same slots are hubs, with the same entries
+pub record HasSameEntries (old new : Hubs) : Type 0 where
+  pub numbers_stay : new.numbers ≡ old.numbers
+  pub hubs_stay : new.hubs ≡ old.hubs

@@ -1,14 +1,15 @@
 ghost use Rattle.std.specs.Prelude.{◌≡◌, ℕ, ◌<◌, ◌↔◌, ◌∷◌, IfOk, IsPermutation, IsTrue, List, MatchOption, length};
 ghost use Rattle.agglo_model.specs.PairOrder.{IsWithinLimits};
-ghost use Rattle.mutual_merge.specs.Hubs.{AreReady, AreReadyBut, HasGained, IsHub, IsTrueEntry, TellAll, entry_of, number_at};
+ghost use Rattle.mutual_merge.specs.Hubs.{AreReady, AreReadyBut, HasGained, HasSameEntries, IsHub, IsTrueEntry, TellAll, entry_of, number_at};
 ghost use Rattle.mutual_merge.specs.Slots.{AreItems, Covers, IsFirstAt, IsLiveAt, nth_link};
 
 use crate::links::Link;
-use crate::slot_links::is_live_at;
+use crate::slot_links::{is_live_at, other_end};
 use agglo_model::Memory;
 use mean_fraction::order_number;
+use region_graph::pair_key;
 use std::alloc::Global;
-use std::collections::BinaryHeap;
+use std::collections::{BinaryHeap, HashMap};
 use std::marker::Model;
 
 /// No hub.
@@ -118,6 +119,11 @@ fn entry_of(index: u32, link: &Link) -> Entry
     }
 }
 
+/// One number for two slots in any order.
+fn key_of(one: u32, other: u32) -> u64 {
+    pair_key(one.min(other), one.max(other))
+}
+
 /// Whether an entry tells of a link at a slot as it is.
 fn is_true(entry: Entry, links: &[Link], slot: u32) -> bool
     ensures { IsTrue result ↔ IsTrueEntry entry links.now slot }
@@ -136,6 +142,8 @@ pub struct Hubs {
     /// For each slot the number of its hub, or NONE. A hub knows its slot, and counts only where that is this one.
     numbers: Vec<u32>,
     hubs: Vec<Hub>,
+    /// A link for two hubs by their key. It is only a guess.
+    pairs: HashMap<u64, u32>,
 }
 
 impl Hubs {
@@ -147,6 +155,7 @@ impl Hubs {
             alloc,
             numbers: Vec::from_elem(alloc, NONE, slots)?,
             hubs: Vec::new(alloc),
+            pairs: HashMap::new(alloc),
         })
     }
 
@@ -174,6 +183,7 @@ impl Hubs {
         if self.is_hub(slot) {
             return Ok(());
         }
+        self.note_pairs(slot, links, items)?;
         let Ok(number) = u32::try_from(self.hubs.len()) else {
             return Ok(());
         };
@@ -208,6 +218,11 @@ impl Hubs {
         self.hubs[number].first(links)
     }
 
+    /// A link that joins two hubs, by its index, if one is known that does or did.
+    pub fn link_between(&self, one: u32, other: u32) -> Option<u32> {
+        self.pairs.get(&key_of(one, other)).copied()
+    }
+
     /// Lets a slot be no hub any more, and gives back the memory of its entries.
     pub fn close(&mut self, slot: u32)
         ensures ready { (links : List Link) → AreReady links self.old → AreReady links self.new }
@@ -233,12 +248,38 @@ impl Hubs {
         }
     }
 
+    /// Takes note of those of these items' links that join a slot to a hub.
+    fn note_pairs(&mut self, slot: u32, links: &[Link], items: &[u32]) -> Result<(), Memory>
+        requires { AreItems (length links.now) items.now }
+        ensures { IfOk result (λ _. HasSameEntries self.old self.new) }
+    {
+        for item in items {
+            let index = item / 2;
+            let link = &links[index as usize];
+            if is_live_at(link, slot) {
+                self.note_pair(slot, other_end(link, slot), index)?;
+            }
+        }
+        Ok(())
+    }
+
+    /// Takes note of a link that joins two slots, of which the first is a hub, if the other is one.
+    fn note_pair(&mut self, slot: u32, partner: u32, index: u32) -> Result<(), Memory>
+        ensures { IfOk result (λ _. HasSameEntries self.old self.new) }
+    {
+        if self.is_hub(partner) {
+            let _ = self.pairs.insert(key_of(slot, partner), index)?;
+        }
+        Ok(())
+    }
+
     /// Gives a slot an entry of this link, if it is a hub.
     fn add(&mut self, slot: u32, index: u32, link: &Link) -> Result<(), Memory>
         ensures { IfOk result (λ _. HasGained slot index link.now self.old self.new) }
     {
         if let Some(number) = self.find(slot) {
             self.hubs[number].push(entry_of(index, link))?;
+            self.note_pair(slot, other_end(link, slot), index)?;
         }
         Ok(())
     }
