@@ -10,6 +10,7 @@ pub mod NameGains
 pub mod ContactRows
 pub mod BoxRows
 pub mod Layers
+pub mod Halves
 pub mod InsideEdges
 pub mod AxisContacts
 pub mod FaceNames

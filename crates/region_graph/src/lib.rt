@@ -5,6 +5,7 @@
 //! What merges regions and what joins the graphs of children stands on it.
 #![tactic(auto)]
 
+mod blocks;
 mod contacts;
 mod graph;
 mod keys;
