@@ -6,6 +6,7 @@
 #![tactic(auto)]
 
 mod blocks;
+mod buckets;
 mod contacts;
 mod graph;
 mod keys;
