@@ -1,5 +1,5 @@
 -- A box gone over row by row: the contacts and the names of the rows so far.
-use Rattle.std.proofs.Common.{◌≡◌, ℕ, ◌+◌, ◌*◌, ◌-◌, ◌/◌, ◌%◌, ◌<◌, ◌≤◌, Bool, ◌&&◌, ◌||◌, eqb, List, get_or, sym, ap, ◌∙◌, arith}
+use Rattle.std.proofs.Common.{◌≡◌, ℕ, ◌+◌, ◌*◌, ◌-◌, ◌/◌, ◌%◌, ◌<◌, ◌≤◌, Bool, ◌&&◌, ◌||◌, eqb, List, get_or, sym, ap, ◌∙◌, subst, arith}
 use Rattle.std.proofs.Math.Nat.{mul-le-mul_left}
 use Rattle.std.proofs.Math.Bool.{and-or_distrib_left}
 use Rattle.std.proofs.lemmas.Bool.{and_right}
@@ -12,7 +12,7 @@ use Rattle.agglo_model.proofs.Edges.{each_axis}
 use Rattle.agglo_model.proofs.Places.{voxel_at-lt}
 use Rattle.agglo_model.proofs.Tests.{both_apart}
 use Rattle.region_graph.specs.Lists.{count_of}
-use Rattle.region_graph.specs.Boxes.{GainsContacts, GainsNames, IsBox, ends_among, in_box}
+use Rattle.region_graph.specs.Boxes.{GainsContacts, GainsNames, IsBox, ends_among, in_box, volume_of}
 use Rattle.region_graph.proofs.VoxelTests.{is_seen, in_row, in_box-is, row_inside, seen_none, seen_first, seen_layer, seen_all, seen_more, seen_apart}
 use Rattle.region_graph.proofs.ContactGains.{gains-nothing, gains-both, gains-same}
 use Rattle.region_graph.proofs.NameGains.{names-nothing, names-both, names-test}
@@ -51,10 +51,14 @@ row_inner a lo hi y z axis v box row below some from to =
 
 -- ---- contacts
 
+-- the voxels of the rows before the one at y and z
+abbrev pub seen_count : List ℕ → List ℕ → ℕ → ℕ → ℕ
+seen_count lo hi y z = (get_or hi 0 0 - get_or lo 0 0) * ((y - get_or lo 1 0) + (get_or hi 1 0 - get_or lo 1 0) * (z - get_or lo 2 0))
+
 -- the contacts of the box's rows before the one at y and z were gained, at most one edge of the grid for each voxel
 pub record AreRowsSummed (g : Grid) (labels : List ℕ) (axis : ℕ) (lo hi : List ℕ) (y z : ℕ) (before now : List GraphEdge) : Type 0 where
   pub gains : GainsContacts g labels (ends_among axis (is_seen g.axes lo hi y z)) before now
-  pub count : count_of now ≤ count_of before + voxel_at g.axes 0 y z
+  pub count : count_of now ≤ count_of before + seen_count lo hi y z
 
 ends_of : (axis : ℕ) (p q : ℕ → Bool) (e : ℕ) → ((v : ℕ) → p v ≡ q v) → ends_among axis p e ≡ ends_among axis q e
 ends_of axis p q e same = ap (λ b. eqb (e % 3) axis && b) (same (e / 3))
@@ -72,19 +76,20 @@ same_rows : (g : Grid) (labels : List ℕ) (axis : ℕ) (p q : ℕ → Bool) (es
 same_rows g labels axis p q es fs same gained =
     gains-same g labels (ends_among axis p) (ends_among axis q) es fs (λ e _. ends_of axis p q e same) gained
 
-first_row : (nx m y : ℕ) → nx * (0 + m) ≤ nx * (y + m)
-first_row nx m y = mul-le-mul_left nx (omega arith)
-
 pub rows-first : (g : Grid) (labels : List ℕ) (axis : ℕ) (lo hi : List ℕ) (z : ℕ) (es fs : List GraphEdge)
     → AreRowsSummed g labels axis lo hi 0 z es fs → AreRowsSummed g labels axis lo hi (get_or lo 1 0) z es fs
 rows-first g labels axis lo hi z es fs so_far = record {
   gains = same_rows g labels axis (is_seen g.axes lo hi 0 z) (is_seen g.axes lo hi (get_or lo 1 0) z) es fs
       (seen_first g.axes lo hi z) so_far.gains;
   count =
-      let more = first_row g.axes.nx (g.axes.ny * z) (get_or lo 1 0) in
-      let so_many = so_far.count in
-      omega (arith, more, so_many);
+      let none : get_or lo 1 0 - get_or lo 1 0 ≡ 0 - get_or lo 1 0 = omega arith in
+      let w = get_or hi 0 0 - get_or lo 0 0 in
+      let layers = (get_or hi 1 0 - get_or lo 1 0) * (z - get_or lo 2 0) in
+      subst (λ n. count_of fs ≤ count_of es + w * (n + layers)) (sym none) so_far.count;
 }
+
+row_more : (w y m : ℕ) → w * (y + m) + w ≡ w * ((y + 1) + m)
+row_more w y m = omega arith
 
 -- one row more
 pub rows-more : (g : Grid) (labels : List ℕ) (axis : ℕ) (lo hi : List ℕ) (y z : ℕ) (es fs gs : List GraphEdge)
@@ -103,24 +108,46 @@ rows-more g labels axis lo hi y z es fs gs box row so_far gained count =
           (λ e. both_apart (eqb (e % 3) axis) (p (e / 3)) (q (e / 3))
           (seen_apart g.axes lo hi y z (e / 3) box row.y_low row.y_high row.z_low row.z_high)) so_far.gains gained);
       count =
+          let w = get_or hi 0 0 - get_or lo 0 0 in
+          let layers = (get_or hi 1 0 - get_or lo 1 0) * (z - get_or lo 2 0) in
+          let next : (y + 1) - get_or lo 1 0 ≡ (y - get_or lo 1 0) + 1 = omega (arith, row.y_low) in
+          let more = row_more w (y - get_or lo 1 0) layers in
           let so_many = so_far.count in
-          let most = box.most_x in
-          omega (arith, so_many, most, count);
+          subst (λ n. count_of gs ≤ count_of es + w * (n + layers)) (sym next) (omega (arith, so_many, more, count));
     }
 
-next_layer : (nx ny h z : ℕ) → h ≤ ny → nx * (h + ny * z) ≤ nx * (0 + ny * (z + 1))
-next_layer nx ny h z most = mul-le-mul_left nx (omega arith)
+row_room : (w h d y z : ℕ) → y < h → z < d → w * (y + h * z) + w ≤ w * (h * d)
+row_room w h d y z row layer =
+    let rows : h * (z + 1) ≤ h * d = mul-le-mul_left h (omega arith) in
+    let all : w * ((y + h * z) + 1) ≤ w * (h * d) = mul-le-mul_left w (omega (arith, rows)) in
+    omega (arith, all)
+
+-- there is room for the next row
+pub rows-room : (g : Grid) (labels : List ℕ) (axis : ℕ) (lo hi : List ℕ) (y z first most : ℕ) (es fs : List GraphEdge)
+    → IsRow lo hi y z → AreRowsSummed g labels axis lo hi y z es fs → count_of es + volume_of lo hi ≤ most
+    → count_of fs + ((first + get_or hi 0 0) - (first + get_or lo 0 0)) ≤ most
+rows-room g labels axis lo hi y z first most es fs row so_far room =
+    let less = row_room (get_or hi 0 0 - get_or lo 0 0) (get_or hi 1 0 - get_or lo 1 0) (get_or hi 2 0 - get_or lo 2 0)
+    (y - get_or lo 1 0) (z - get_or lo 2 0) (omega (arith, row.y_low, row.y_high)) (omega (arith, row.z_low, row.z_high)) in
+    let so_many = so_far.count in
+    omega (arith, less, so_many, room)
+
+next_layer : (w h z : ℕ) → w * (h + h * z) ≡ w * (0 + h * (z + 1))
+next_layer w h z = omega arith
 
 -- one layer more
-pub rows-layer : (g : Grid) (labels : List ℕ) (axis : ℕ) (lo hi : List ℕ) (z : ℕ) (es fs : List GraphEdge) → IsBox g.axes lo hi
+pub rows-layer : (g : Grid) (labels : List ℕ) (axis : ℕ) (lo hi : List ℕ) (z : ℕ) (es fs : List GraphEdge) → get_or lo 2 0 ≤ z
     → AreRowsSummed g labels axis lo hi (get_or hi 1 0) z es fs → AreRowsSummed g labels axis lo hi 0 (z + 1) es fs
-rows-layer g labels axis lo hi z es fs box so_far = record {
+rows-layer g labels axis lo hi z es fs low so_far = record {
   gains = same_rows g labels axis (is_seen g.axes lo hi (get_or hi 1 0) z) (is_seen g.axes lo hi 0 (z + 1)) es fs
       (seen_layer g.axes lo hi z) so_far.gains;
   count =
-      let more = next_layer g.axes.nx g.axes.ny (get_or hi 1 0) z box.most_y in
-      let so_many = so_far.count in
-      omega (arith, more, so_many);
+      let w = get_or hi 0 0 - get_or lo 0 0 in
+      let h = get_or hi 1 0 - get_or lo 1 0 in
+      let before : 0 - get_or lo 1 0 ≡ 0 = omega arith in
+      let next : (z + 1) - get_or lo 2 0 ≡ (z - get_or lo 2 0) + 1 = omega (arith, low) in
+      let more = next_layer w h (z - get_or lo 2 0) ∙ (λ i. w * (sym before i + h * sym next i)) in
+      subst (λ n. count_of fs ≤ count_of es + n) more so_far.count;
 }
 
 -- all rows
@@ -130,17 +157,15 @@ pub rows-gained : (g : Grid) (labels : List ℕ) (axis : ℕ) (lo hi : List ℕ)
 rows-gained g labels axis lo hi es fs all =
     same_rows g labels axis (is_seen g.axes lo hi 0 (get_or hi 2 0)) (in_box g.axes lo hi) es fs (seen_all g.axes lo hi) all.gains
 
-last_layer : (nx ny nz h : ℕ) → h ≤ nz → nx * (0 + ny * h) ≤ nx * ny * nz
-last_layer nx ny nz h most =
-    let less : nx * ny * h ≤ nx * ny * nz = mul-le-mul_left (nx * ny) most in
-    omega (arith, less)
-
-pub rows-count : (g : Grid) (labels : List ℕ) (axis : ℕ) (lo hi : List ℕ) (es fs : List GraphEdge) → IsBox g.axes lo hi
-    → AreRowsSummed g labels axis lo hi 0 (get_or hi 2 0) es fs → count_of fs ≤ count_of es + voxel_count g.axes
-rows-count g labels axis lo hi es fs box all =
-    let most = last_layer g.axes.nx g.axes.ny g.axes.nz (get_or hi 2 0) box.most_z in
-    let so_many = all.count in
-    omega (arith, most, so_many)
+pub rows-count : (g : Grid) (labels : List ℕ) (axis : ℕ) (lo hi : List ℕ) (es fs : List GraphEdge)
+    → AreRowsSummed g labels axis lo hi 0 (get_or hi 2 0) es fs → count_of fs ≤ count_of es + volume_of lo hi
+rows-count g labels axis lo hi es fs all =
+    let before : 0 - get_or lo 1 0 ≡ 0 = omega arith in
+    let w = get_or hi 0 0 - get_or lo 0 0 in
+    let layers = (get_or hi 1 0 - get_or lo 1 0) * (get_or hi 2 0 - get_or lo 2 0) in
+    let less : count_of fs ≤ count_of es + w * (0 + layers) = subst (λ n. count_of fs ≤ count_of es + w * (n + layers)) before all.count in
+    let same : w * (0 + layers) ≡ w * layers = omega arith in
+    subst (λ n. count_of fs ≤ count_of es + n) same less
 
 -- ---- names
 

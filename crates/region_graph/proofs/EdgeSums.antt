@@ -11,8 +11,8 @@ use Rattle.agglo_model.specs.Contacts.{are}
 use Rattle.agglo_model.specs.RegionGraph.{GraphEdge, StandsBefore, is_between, no_contact, contact_in}
 use Rattle.agglo_model.proofs.GraphContacts.{same_contact, added_assoc, joint, joint-append, joint-permutation, contact_in-is, none-added}
 use Rattle.agglo_model.proofs.Members.{contains_none, All-from_contains}
-use Rattle.region_graph.specs.Lists.{AreOrdered, AreTouching, SameContacts, IsFit, TakesIn, Gains, count_of, order_of, with_contact}
-use Rattle.region_graph.proofs.Gaining.{AreKeyed, none_keyed, keyed_more, each_more, low_before}
+use Rattle.region_graph.specs.Lists.{AreOrdered, AreSummed, AreTouching, SameContacts, IsFit, TakesIn, Gains, count_of, order_of, with_contact}
+use Rattle.region_graph.proofs.Gaining.{none_keyed, keyed_more, each_more, low_before}
 
 -- ---- edges by their places in order
 
@@ -82,13 +82,6 @@ gained_count e before after (inr appended) =
     ap count_of appended.is ∙ sum_by_push (λ f. f.contact.count) before e
 
 -- ---- a list of edges summed up so far
-
-pub record AreSummed (done summed : List GraphEdge) : Type 0 where
-  pub keyed : AreKeyed order_of done summed
-  pub fit : (e : GraphEdge) → Contains summed e → IsFit e
-  pub done_fit : (e : GraphEdge) → Contains done e → IsFit e
-  pub contacts : SameContacts done summed
-  pub count : count_of summed ≡ count_of done
 
 pub none_summed : AreSummed [] []
 none_summed = record {

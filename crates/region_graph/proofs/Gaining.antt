@@ -7,7 +7,7 @@ use Rattle.std.proofs.lemmas.List.{get_or_at, get_or_append_left, get_or-take, g
 use Rattle.std.proofs.lemmas.List.Elements.{Contains-get_or, Contains-append_left, Contains-push, Contains-push_cases}
 use Rattle.std.proofs.lemmas.List.Quantifiers.{all_pairs_push}
 use Rattle.agglo_model.proofs.Members.{contains_none}
-use Rattle.region_graph.specs.Lists.{TakesIn, Appends, Gains}
+use Rattle.region_graph.specs.Lists.{AreKeyed, TakesIn, Appends, Gains}
 
 -- ---- a list by its last element
 
@@ -53,11 +53,6 @@ appends key both x xs ys n len other_key ys_is = inr (record {
 })
 
 -- ---- lists in ascending order of the key
-
--- strictly ascending, with no other keys than those of a list
-pub record AreKeyed {X : Type 0} (key : X → ℕ) (done joined : List X) : Type 0 where
-  pub ascend : AllPairs (λ x y. key x < key y) joined
-  pub from : (y : X) → Contains joined y → (x : X) × Contains done x × (key x ≡ key y)
 
 pub none_keyed : {X : Type 0} (key : X → ℕ) → AreKeyed key [] []
 none_keyed key = record {

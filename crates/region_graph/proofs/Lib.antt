@@ -10,6 +10,9 @@ pub mod NameGains
 pub mod ContactRows
 pub mod BoxRows
 pub mod Layers
+pub mod BucketSorting
+pub mod BucketSums
+pub mod Halves
 pub mod InsideEdges
 pub mod AxisContacts
 pub mod FaceNames

@@ -7,8 +7,8 @@ use Rattle.std.proofs.lemmas.List.Elements.{All-contains}
 use Rattle.std.proofs.lemmas.List.Sorted.{All-permutation}
 use Rattle.agglo_model.specs.RegionGraph.{Region}
 use Rattle.agglo_model.proofs.Members.{All-from_contains}
-use Rattle.region_graph.specs.Lists.{AreNamed, SameRegions, Gains, with_faces_of}
-use Rattle.region_graph.proofs.Gaining.{AreKeyed, none_keyed, keyed_more, low_before}
+use Rattle.region_graph.specs.Lists.{AreKeyed, AreNamed, SameRegions, Gains, with_faces_of}
+use Rattle.region_graph.proofs.Gaining.{none_keyed, keyed_more, low_before}
 use Rattle.region_graph.proofs.RegionLists.{AgreeInTests, same_regions, agree-permutation, agree-append, agree-refl, agree-trans, agree-joined}
 
 -- a list that gained a region has the names and faces of the list with the region after it

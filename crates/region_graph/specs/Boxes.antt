@@ -1,5 +1,5 @@
 -- Boxes of voxels, rows of them, and the names and edges that are found there.
-use Rattle.std.specs.Prelude.{◌≡◌, ◌≢◌, ℕ, ◌+◌, ◌-◌, ◌*◌, ◌/◌, ◌%◌, ◌^◌, ◌<◌, ◌≤◌, ◌==◌, nat_lt, nat_le, Bool, ◌&&◌, ◌||◌, if◌then◌else◌, List, slice_index, slice_set, bit_or}
+use Rattle.std.specs.Prelude.{◌≡◌, ◌≢◌, ℕ, ◌+◌, ◌-◌, ◌*◌, ◌/◌, ◌%◌, ◌^◌, ◌<◌, ◌≤◌, ◌==◌, max, length, nat_lt, nat_le, Bool, ◌&&◌, ◌||◌, if◌then◌else◌, List, slice_index, slice_set, bit_or}
 use Rattle.std.specs.List.{list_any, range_with_len}
 use Rattle.agglo_model.specs.Axes.{Axes, voxel_count, edge_count, coordinate}
 use Rattle.agglo_model.specs.Basins.{label_of}
@@ -59,6 +59,27 @@ pub record GainsContacts (g : Grid) (labels : List ℕ) (test : ℕ → Bool) (b
 pub record IsSomeBox (a : Axes) (lo hi : List ℕ) : Type 0 where
   pub some : (axis : ℕ) → axis < 3 → slice_index lo axis < slice_index hi axis
   pub most : (axis : ℕ) → axis < 3 → slice_index hi axis ≤ length_on a axis
+
+-- how many voxels a box has
+abbrev pub volume_of : List ℕ → List ℕ → ℕ
+volume_of lo hi = (slice_index hi 0 - slice_index lo 0)
+    * ((slice_index hi 1 - slice_index lo 1) * (slice_index hi 2 - slice_index lo 2))
+
+-- a box of the volume with some voxel, as a part of a larger one with this low corner
+pub record IsBlock (a : Axes) (outer_lo lo hi : List ℕ) : Type 0 where
+  pub box : IsSomeBox a lo hi
+  pub outer_low : (axis : ℕ) → axis < 3 → slice_index outer_lo axis ≤ slice_index lo axis
+  pub lo_three : length lo ≡ 3
+  pub hi_three : length hi ≡ 3
+
+-- the low corner of those voxels of a block that have a voxel below them on an axis in the larger box
+abbrev pub raised_low : List ℕ → List ℕ → ℕ → List ℕ
+raised_low outer_lo lo axis = slice_set lo axis (max (slice_index lo axis) (slice_index outer_lo axis + 1))
+
+-- e is the number of an edge whose higher end lies in a block, and its lower end in the larger box
+abbrev pub ends_above : Axes → List ℕ → List ℕ → List ℕ → ℕ → Bool
+ends_above a outer_lo lo hi e =
+    nat_lt (slice_index outer_lo (e % 3)) (coordinate a (e / 3) (e % 3)) && in_box a lo hi (e / 3)
 
 -- the low corner of a box without its lowest layer on an axis
 abbrev pub above_lowest : List ℕ → ℕ → List ℕ

@@ -1,3 +1,4 @@
 pub mod SiteView
 pub mod Lists
 pub mod Boxes
+pub mod Sorting

@@ -1,5 +1,5 @@
 -- Lists of regions and of edges while a graph is gathered: in any order, and with names that come again.
-use Rattle.std.specs.Prelude.{◌≡◌, ◌≢◌, ℕ, ◌+◌, ◌*◌, ◌^◌, ◌<◌, ◌⊎◌, List, [], ◌∷◌, ◌++◌, All, sum_by, bit_or}
+use Rattle.std.specs.Prelude.{◌≡◌, ◌≢◌, ℕ, ◌+◌, ◌*◌, ◌^◌, ◌<◌, ◌⊎◌, List, [], ◌∷◌, ◌++◌, All, AllPairs, Contains, sum_by, bit_or}
 use Rattle.agglo_model.specs.Joining.{is_named, joined_faces}
 use Rattle.agglo_model.specs.PairOrder.{added}
 use Rattle.agglo_model.specs.RegionGraph.{Region, GraphEdge, contact_in}
@@ -44,6 +44,19 @@ with_contact e f = record e { contact = added e.contact f.contact }
 
 abbrev pub with_faces_of : Region → Region → Region
 with_faces_of r s = record r { faces = bit_or r.faces s.faces }
+
+-- strictly ascending by a key, with no other keys than those of a list
+pub record AreKeyed {X : Type 0} (key : X → ℕ) (done joined : List X) : Type 0 where
+  pub ascend : AllPairs (λ x y. key x < key y) joined
+  pub from : (y : X) → Contains joined y → (x : X) × Contains done x × (key x ≡ key y)
+
+-- `summed` has the edges of `done` added up, each pair of names once, in the order of a graph
+pub record AreSummed (done summed : List GraphEdge) : Type 0 where
+  pub keyed : AreKeyed order_of done summed
+  pub fit : (e : GraphEdge) → Contains summed e → IsFit e
+  pub done_fit : (e : GraphEdge) → Contains done e → IsFit e
+  pub contacts : SameContacts done summed
+  pub count : count_of summed ≡ count_of done
 
 -- x was taken into the last of the list, which has the same key
 pub record TakesIn {X : Type 0} (key : X → ℕ) (both : X → X → X) (x : X) (before after : List X) : Type 0 where

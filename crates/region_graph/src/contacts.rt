@@ -1,7 +1,7 @@
 ghost use Rattle.std.specs.Prelude.{◌≡◌, ℕ, ◌+◌, ◌-◌, ◌<◌, ◌≤◌, IfOk, slice_index};
 ghost use Rattle.agglo_model.specs.Axes.{coordinate, voxel_count};
 ghost use Rattle.agglo_model.specs.PairOrder.{most_edges};
-ghost use Rattle.region_graph.specs.Boxes.{GainsContacts, IsBox, ends_among, in_box, in_run};
+ghost use Rattle.region_graph.specs.Boxes.{GainsContacts, IsBox, ends_among, in_box, in_run, volume_of};
 ghost use Rattle.region_graph.specs.Lists.{count_of};
 
 use crate::graph::Edge;
@@ -28,7 +28,10 @@ pub fn add_contacts(
         (ends_among axis (in_box site.now.grid.axes cell.now.lo cell.now.hi)) edges.old.items edges.new.items) }
     ensures count { IfOk result (λ _. count_of edges.new.items ≤ count_of edges.old.items + voxel_count site.now.grid.axes) }
 {
-    gather(edges, &mut Recent::new(), site, axis, cell)
+    let alloc = *edges.allocator();
+    let mut recent = Recent::new(alloc)?;
+    gather(edges, &mut recent, site, axis, cell)?;
+    Ok(())
 }
 
 /// The same, with the places of edges that were added a short time ago.
@@ -42,10 +45,10 @@ pub(crate) fn gather(
     requires axis { axis < 3 }
     requires cell_fits { IsBox site.now.grid.axes cell.now.lo cell.now.hi }
     requires inner { 0 < slice_index cell.now.lo axis }
-    requires room { count_of edges.old.items + voxel_count site.now.grid.axes ≤ most_edges }
+    requires room { count_of edges.old.items + volume_of cell.now.lo cell.now.hi ≤ most_edges }
     ensures gains { IfOk result (λ _. GainsContacts site.now.grid site.now.labels
         (ends_among axis (in_box site.now.grid.axes cell.now.lo cell.now.hi)) edges.old.items edges.new.items) }
-    ensures count { IfOk result (λ _. count_of edges.new.items ≤ count_of edges.old.items + voxel_count site.now.grid.axes) }
+    ensures count { IfOk result (λ _. count_of edges.new.items ≤ count_of edges.old.items + volume_of cell.now.lo cell.now.hi) }
 {
     let dims = site.vol().dims();
     let [low_x, low_y, low_z] = cell.lo;

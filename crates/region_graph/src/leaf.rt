@@ -5,11 +5,11 @@ ghost use Rattle.agglo_model.specs.Freezing.{occurs_in, touched_faces};
 ghost use Rattle.agglo_model.specs.Joining.{is_named, joined_faces};
 ghost use Rattle.agglo_model.specs.PairOrder.{most_edges};
 ghost use Rattle.agglo_model.specs.RegionGraph.{IsCellGraph, between_inside, contact_in};
-ghost use Rattle.region_graph.specs.Boxes.{GainsFaces, GainsNames, IsBox, IsSomeBox, above_lowest, highest_from, in_box, lowest_to};
+ghost use Rattle.region_graph.specs.Boxes.{GainsFaces, GainsNames, IsBox, IsSomeBox, highest_from, in_box, lowest_to};
 ghost use Rattle.region_graph.specs.Lists.{AreNamed, AreOrdered, count_of};
 ghost use Rattle.region_graph.specs.SiteView.{IsSite};
 
-use crate::contacts::gather;
+use crate::blocks::gather_blocks;
 use crate::graph::{Edge, Graph, Region};
 use crate::names::add_names;
 use crate::recent::Recent;
@@ -46,16 +46,8 @@ fn contacts_inside(alloc: Global, site: &Site, m: u32) -> Result<Vec<Edge>, Memo
 {
     let cell = site.cutting().cell(m);
     let mut edges = Vec::new(alloc);
-    let mut recent = Recent::new();
-    for axis in 0..3 {
-        gather(
-            &mut edges,
-            &mut recent,
-            site,
-            axis,
-            &above_lowest(&cell, axis),
-        )?;
-    }
+    let mut recent = Recent::new(alloc)?;
+    gather_blocks(&mut edges, &mut recent, site, &cell, &cell)?;
     Ok(edges)
 }
 
@@ -70,7 +62,7 @@ fn names_inside(alloc: Global, site: &Site, m: u32) -> Result<Vec<Region>, Memor
 {
     let cell = site.cutting().cell(m);
     let mut regions = Vec::new(alloc);
-    let mut recent = Recent::new();
+    let mut recent = Recent::new(alloc)?;
     add_names(&mut regions, &mut recent, site.labels(), &cell, 0)?;
     for axis in 0..3 {
         add_faces(&mut regions, &mut recent, site, &cell, axis)?;
@@ -135,17 +127,6 @@ fn axis_length(dims: &Dims, axis: u32) -> u32
         1 => dims.ny(),
         _ => dims.nz(),
     }
-}
-
-/// The cell without its lowest layer on an axis.
-fn above_lowest(cell: &Cell, axis: u32) -> Cell
-    requires axis { axis < 3 }
-    requires fits { slice_index cell.now.lo axis + 1 < 2 ^ 32 }
-    ensures { result ≡ record cell.now { lo = above_lowest cell.now.lo axis } }
-{
-    let mut above = *cell;
-    above.lo[axis as usize] += 1;
-    above
 }
 
 /// The lowest layer of a cell on an axis.

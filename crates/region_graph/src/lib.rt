@@ -5,6 +5,8 @@
 //! What merges regions and what joins the graphs of children stands on it.
 #![tactic(auto)]
 
+mod blocks;
+mod buckets;
 mod contacts;
 mod graph;
 mod keys;

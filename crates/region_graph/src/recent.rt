@@ -1,10 +1,13 @@
 //! Where in a list something was added a short time ago. Nothing is known of the places, so what stands there is
 //! looked at before it is relied on.
 
-ghost use Rattle.std.specs.Prelude.{◌<◌};
+ghost use Rattle.std.specs.Prelude.{◌≡◌, ◌<◌, vec_len};
 
-/// How many places are kept: 2^9.
-const SLOTS: usize = 512;
+use agglo_model::Memory;
+use std::alloc::Global;
+
+/// How many places are kept: 2^12. A table of twice the size is looked up more slowly, and finds hardly more.
+const SLOTS: usize = 4096;
 
 /// 2^64 by the golden ratio: the upper bits of a product with it are well spread.
 const FACTOR: u64 = 0x9e37_79b9_7f4a_7c15;
@@ -12,13 +15,15 @@ const FACTOR: u64 = 0x9e37_79b9_7f4a_7c15;
 /// Places in a list, by numbers that are made of what was added there.
 #[derive(Drop)]
 pub(crate) struct Recent {
-    places: [usize; SLOTS],
+    places: Vec<usize>,
+    ghost whole: { vec_len places ≡ 4096 },
 }
 
 impl Recent {
     /// Nothing was added yet.
-    pub(crate) fn new() -> Recent {
-        Recent { places: [0; SLOTS] }
+    pub(crate) fn new(alloc: Global) -> Result<Recent, Memory> {
+        let places = Vec::from_elem(alloc, 0, SLOTS)?;
+        Ok(Recent { places })
     }
 
     /// The place that was kept for this number, if no other took its slot.
@@ -32,9 +37,9 @@ impl Recent {
     }
 }
 
-/// The slot of a number: the upper nine bits of a product.
+/// The slot of a number: the upper twelve bits of a product.
 fn slot(number: u64) -> usize
     ensures { result < SLOTS }
 {
-    (number.wrapping_mul(FACTOR) >> 55) as usize
+    (number.wrapping_mul(FACTOR) >> 52) as usize
 }

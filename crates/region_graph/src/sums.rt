@@ -1,14 +1,16 @@
-ghost use Rattle.std.specs.Prelude.{◌≡◌, ◌≢◌, ◌<◌, ◌≤◌, ◌+◌, ◌++◌, ◌∷◌, [], AllPairs, IfOk};
+ghost use Rattle.std.specs.Prelude.{◌≡◌, ◌≢◌, ◌<◌, ◌≤◌, ◌+◌, ◌++◌, ◌∷◌, [], AllPairs, IfOk, List};
+ghost use Rattle.std.specs.List.Sorted.{IsNonDecreasingBy};
 ghost use Rattle.agglo_model.specs.PairOrder.{most_edges};
-ghost use Rattle.agglo_model.specs.RegionGraph.{StandsBefore};
-ghost use Rattle.region_graph.specs.Lists.{AreNamed, AreOrdered, AreTouching, Gains, IsFit, SameContacts, SameRegions, count_of, order_of, with_contact, with_faces_of};
+ghost use Rattle.agglo_model.specs.RegionGraph.{GraphEdge, StandsBefore};
+ghost use Rattle.region_graph.specs.Lists.{AreNamed, AreOrdered, AreSummed, AreTouching, Gains, IsFit, SameContacts, SameRegions, count_of, order_of, with_contact, with_faces_of};
 
+use crate::buckets::in_order;
 use crate::graph::{Edge, Region};
 use agglo_model::Memory;
 use std::alloc::Global;
 
 /// Sorts edges by their two names, and adds up those between the same two. Fails for want of memory alone.
-pub fn sum_contacts(alloc: Global, mut edges: Vec<Edge>) -> Result<Vec<Edge>, Memory>
+pub fn sum_contacts(alloc: Global, edges: Vec<Edge>) -> Result<Vec<Edge>, Memory>
     requires within { count_of edges.items ≤ most_edges }
     requires ordered { AreOrdered edges.items }
     ensures ascend { IfOk result (λ summed. AllPairs StandsBefore summed.items) }
@@ -17,12 +19,24 @@ pub fn sum_contacts(alloc: Global, mut edges: Vec<Edge>) -> Result<Vec<Edge>, Me
     ensures contacts { IfOk result (λ summed. SameContacts edges.items summed.items) }
     ensures count { IfOk result (λ summed. count_of summed.items ≡ count_of edges.items) }
 {
-    edges.sort_unstable_by_key(|edge| edge.order());
+    let buckets = in_order(alloc, edges)?;
     let mut summed = Vec::new(alloc);
-    for edge in &edges {
-        add_edge(&mut summed, *edge)?;
+    for bucket in &buckets {
+        add_edges(&mut summed, bucket)?;
     }
     Ok(summed)
+}
+
+/// Adds edges one after the other, as `add_edge` does.
+fn add_edges(summed: &mut Vec<Edge>, edges: &[Edge]) -> Result<(), Memory>
+    requires { count_of summed.old.items + count_of edges.now ≤ most_edges }
+    ensures { IfOk result (λ _. (done : List GraphEdge) → AreSummed done summed.old.items
+        → IsNonDecreasingBy order_of (done ++ edges.now) → AreSummed (done ++ edges.now) summed.new.items) }
+{
+    for edge in edges {
+        add_edge(summed, *edge)?;
+    }
+    Ok(())
 }
 
 /// Adds an edge to the last of the list, where that is between the same two names, and else appends it.

@@ -1,8 +1,9 @@
 use Rattle.std.proofs.Common.{◌≡◌, ◌+◌, ◌-◌, ◌<◌, ◌≤◌, get_or, ap, ◌∙◌, subst, arith}
 use Rattle.agglo_model.specs.Axes.{voxel_at}
+use Rattle.agglo_model.specs.PairOrder.{most_edges}
 use Rattle.region_graph.specs.Boxes.{GainsContacts, ends_among, in_run}
 use Rattle.region_graph.specs.Lists.{count_of}
-use Rattle.region_graph.proofs.BoxRows.{AreRowsSummed, IsRow, row_inner, rows-none, rows-first, rows-more, rows-layer, rows-gained, rows-count}
+use Rattle.region_graph.proofs.BoxRows.{AreRowsSummed, IsRow, row_inner, rows-none, rows-first, rows-more, rows-layer, rows-room, rows-gained, rows-count}
 use Rattle.region_graph.proofs.contacts.gather.Goals as goal
 use Rattle.region_graph.proofs.contacts.gather.Goals.{After-voxel-row}
 
@@ -38,6 +39,12 @@ add_row-requires-clause-inner c v from to =
     c.requires.axis c.requires.inner
     (subst (λ n. n + get_or cell.lo 0 0 ≤ v) (first_is at) from) (subst (λ n. v < n + get_or cell.hi 0 0) (first_is at) to)
 
+pub add_row-requires-clause-room : goal.add_row-requires-clause-room
+add_row-requires-clause-room c =
+    let cell = c.args.cell.now in
+    rows-room c.args.site.now.grid c.args.site.now.labels c.args.axis cell.lo cell.hi c.loop-y.y c.loop-z.z c.voxel-row.result most_edges
+    c.args.edges.now.items c.loop-y.edges.items (row_at (goal.at.add_row-requires-clause-room c).After-voxel-row) c.loop-y.invariant c.requires.room
+
 pub loop-y-preserved : goal.loop-y-preserved
 loop-y-preserved c =
     let g = c.args.site.now.grid in
@@ -58,7 +65,7 @@ loop-z-preserved c =
     let labels = c.args.site.now.labels in
     let cell = c.args.cell.now in
     let end : c.loop-y.y ≡ get_or cell.hi 1 0 = omega (arith, c.requires.cell_fits.from_y) in
-    rows-layer g labels c.args.axis cell.lo cell.hi c.loop-z.z c.args.edges.now.items c.loop-y.edges.items c.requires.cell_fits
+    rows-layer g labels c.args.axis cell.lo cell.hi c.loop-z.z c.args.edges.now.items c.loop-y.edges.items c.loop-z.auto.z
     (subst (λ y. AreRowsSummed g labels c.args.axis cell.lo cell.hi y c.loop-z.z c.args.edges.now.items c.loop-y.edges.items)
     end c.loop-y.invariant)
 
@@ -79,4 +86,4 @@ returns-clause-gains c =
 pub returns-clause-count : goal.returns-clause-count
 returns-clause-count c =
     rows-count c.args.site.now.grid c.args.site.now.labels c.args.axis c.args.cell.now.lo c.args.cell.now.hi
-    c.args.edges.now.items c.loop-z.edges.items c.requires.cell_fits (all_rows c)
+    c.args.edges.now.items c.loop-z.edges.items (all_rows c)
