@@ -21,10 +21,9 @@ use merge_tree::Tree;
 use refusals::{Refusal, tell};
 use seg_base::Dims;
 use seg_io::{Desk, Port, put_all};
-use segment_run::{Answer, Gate, Settings, report_text, segment};
+use segment_run::{Answer, Gate, Settings, basins_by_threads, report_text, segment};
 use std::alloc::Global;
 use std::thread::Threads;
-use steepest_ascent::whole_basins;
 use volume_file::generate;
 
 /// Runs the program on the words after its name, and answers the status that it ends with. The gate is told of each
@@ -161,7 +160,7 @@ fn run_job<R: Threads + Sync, D: Desk, G: Gate>(
             volume,
             labels,
             low,
-        } => run_basins(alloc, desk, volume.as_str(), labels.as_str(), *low),
+        } => run_basins(rt, alloc, desk, volume.as_str(), labels.as_str(), *low),
         Job::Segment {
             volume,
             labels,
@@ -199,7 +198,8 @@ fn run_job<R: Threads + Sync, D: Desk, G: Gate>(
 }
 
 /// Reads the volume, finds its basins, and writes their labels.
-fn run_basins<D: Desk>(
+fn run_basins<R: Threads + Sync, D: Desk>(
+    rt: &R,
     alloc: Global,
     desk: &mut D,
     volume: &str,
@@ -212,7 +212,7 @@ fn run_basins<D: Desk>(
         (λ refusal. RefusesTask (Basins (record { volume = volume.now; labels = labels.now; low = low })) refusal (D.state desk.old) (D.state desk.new)) }
 {
     let volume = read_volume_file(alloc, desk, volume)?;
-    let basins = whole_basins(alloc, &volume, low)?;
+    let basins = basins_by_threads(rt, alloc, &volume, low)?;
     let note = basins_note(alloc, &basins)?;
     write_basins(desk, labels, &basins, note.as_str()).map_err(|_| Refusal::Output)
 }

@@ -18,7 +18,7 @@ mod tree_records;
 
 pub use label_file::put_labels;
 pub use merge::Merge;
-pub use order::in_order;
+pub use order::{in_order, sort_by_threads};
 pub use renaming::apply;
 pub use tree::Tree;
 pub use tree_fault::TreeFault;

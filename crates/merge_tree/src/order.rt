@@ -7,8 +7,10 @@ ghost use Rattle.merge_tree.specs.Order.{goes_first, HasEdges, DifferInRank};
 use crate::merge::Merge;
 use agglo_model::Memory;
 use mean_fraction::rank;
+use rayon::prelude::*;
 use std::alloc::Global;
 use std::cmp::Ordering;
+use std::thread::Threads;
 
 /// The merges in pair order: the one with the greatest mean first, and of equal means the one with
 /// the smallest tie. They are sorted where they stand, so no memory is taken, and it does not fail.
@@ -23,6 +25,23 @@ pub fn in_order(_alloc: Global, merges: Vec<Merge>) -> Result<Vec<Merge>, Memory
     let mut sorted = merges;
     sorted.sort_unstable_by(|a, b| compare(a, b));
     Ok(sorted)
+}
+
+/// Sorts merges in pair order as `in_order` does, in several threads.
+pub fn sort_by_threads<R: Threads + Sync>(rt: &R, merges: &mut [Merge])
+    requires { AllPairs DifferInRank merges.old }
+    ensures same_merges { IsPermutation merges.old merges.new }
+    ensures falling { AreFalling merges.new }
+    ensures each_first { AllPairs RanksFirst merges.new }
+{
+    have_edges(merges);
+    par_sort_unstable_by(
+        rt,
+        merges,
+        |a: &Merge, b: &Merge| -> Ordering
+            ensures { is_lt result ≡ goes_first a.now b.now }
+        { compare(a, b) },
+    );
 }
 
 /// Compares two merges by their contacts: the one that comes first in pair order is the less.

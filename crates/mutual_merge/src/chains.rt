@@ -35,8 +35,8 @@ pub struct Chained {
 
 /// Merges reciprocal pairs of a graph along chains of neighbours: from each region one goes to the partner of its first
 /// contact, from there to the partner's, and so on, until two regions are first for each other, and these are merged.
-/// Contacts come earlier along a chain, so it ends; a chain that comes to a region that is held back waits for that, and
-/// none of its regions is looked at again.
+/// Contacts come earlier along a chain, so it ends; where it comes to a region that is held back, those that were climbed
+/// since the last merge wait for that, and none of them is looked at again.
 ///
 /// Neighbour chains are after Benzecri, Construction d'une classification ascendante hierarchique par la recherche en
 /// chaine des voisins reciproques (1982). What is told of the merges does not rest on how far chains go: a pair that is
@@ -141,6 +141,7 @@ impl Merging {
             → HaveMergedInto threshold.now frozen graph self.old.merges.items slots.old.regions.items slots.old.closed.items slots.old.links.items
             → HaveMergedInto threshold.now frozen graph self.new.merges.items slots.new.regions.items slots.new.closed.items slots.new.links.items) }
     {
+        let begin = self.chain.len().saturating_sub(1);
         match self.climb(slots, last, threshold, frozen)? {
             End::Pair(index) => {
                 self.merge(slots, index)?;
@@ -151,7 +152,7 @@ impl Merging {
                 Ok(())
             }
             End::Held => {
-                self.hold();
+                self.hold(begin);
                 Ok(())
             }
         }
@@ -219,16 +220,17 @@ impl Merging {
         a || b
     }
 
-    /// Notes that all slots of the chain wait, and gives it up.
-    fn hold(&mut self)
+    /// Notes that the slots of the chain from this place on wait, and takes them off. Those before it are looked at
+    /// again, since a merge may have given them another first link.
+    fn hold(&mut self, begin: usize)
         ensures { self.new.merges ≡ self.old.merges }
     {
-        for slot in &self.chain {
+        for slot in self.chain.iter().skip(begin) {
             if let Some(held) = self.held.get_mut(*slot as usize) {
                 *held = true;
             }
         }
-        self.chain.clear();
+        self.chain.truncate(begin);
     }
 
     /// Merges the pair of a link, whose slots stand in the place of the last of the chain then. Where another link
@@ -248,7 +250,7 @@ impl Merging {
                 let _ = self.chain.pop();
                 self.chain.push(slots.left_of(&link))?;
             }
-            None => self.hold(),
+            None => self.hold(0),
         }
         Ok(())
     }

@@ -11,7 +11,7 @@ mod report;
 mod segmenting;
 
 pub use answer::{Answer, Settings};
-pub use basin_run::basins;
+pub use basin_run::{basins, basins_by_threads};
 pub use chunk_run::{Gate, LevelCount, Open};
 pub use report::report_text;
 pub use segmenting::{count_basins, segment};

@@ -1,19 +1,21 @@
-ghost use Rattle.std.specs.Prelude.{◌≡◌, ℕ, All, IfOk, length};
+ghost use Rattle.std.specs.Prelude.{◌≡◌, ℕ, All, AllPairs, IfOk, IsPermutation, length};
 ghost use Rattle.agglo_model.specs.Basins.{AreBasins, names};
 ghost use Rattle.agglo_model.specs.Greedy.{IsGreedyRun};
 ghost use Rattle.agglo_model.specs.Grid.{Grid};
+ghost use Rattle.agglo_model.specs.MergeLaws.{AreFalling};
 ghost use Rattle.agglo_model.specs.Segmentation.{AreLevels, IsSegmentation};
+ghost use Rattle.merge_tree.specs.Order.{DifferInRank};
 ghost use Rattle.merge_tree.specs.Renaming.{HasSmallNames};
 
 use crate::answer::{Answer, Settings};
-use crate::basin_run::basins;
+use crate::basin_run::{basins, basins_by_threads};
 use agglo_model::Memory;
 use agglo_model::laws::{bounded_labels, counted_names};
 use agglo_model::laws_of_merging::{greedy_merges_are_lawful, sorted_merges_are_greedy};
 use agglo_model::laws_of_nodes::{basins_are_connected, works_are_a_run};
 use chunk_run::{Gate, LevelCount, run_tree};
 use chunk_tree::Cutting;
-use merge_tree::{Merge, apply, in_order};
+use merge_tree::{Merge, apply, in_order, sort_by_threads};
 use region_graph::Site;
 use seg_base::Labels;
 use std::alloc::Global;
@@ -47,7 +49,7 @@ pub fn segment<R: Threads + Sync, G: Gate>(
     ensures answer { IfOk result (λ answer. IsSegmentation vol.now settings.now.low settings.now.threshold cutting.now
         answer.labels.labels answer.basins answer.merges.items answer.levels.items) }
 {
-    let mut labels = basins(rt, alloc, vol, settings.low, cutting)?;
+    let mut labels = start_labels(rt, alloc, vol, cutting, settings)?;
     let count = count_basins(&labels);
     let done = agglomerate(rt, alloc, vol, &labels, cutting, settings, gate)?;
     apply(alloc, &mut labels, &done.merges)?;
@@ -57,6 +59,25 @@ pub fn segment<R: Threads + Sync, G: Gate>(
         merges: done.merges,
         levels: done.levels,
     })
+}
+
+/// The labels of basins, from the leaves of the cutting where there is one worker, and else by threads.
+fn start_labels<R: Threads + Sync>(
+    rt: &R,
+    alloc: Global,
+    vol: &Volume,
+    cutting: &Cutting,
+    settings: &Settings,
+) -> Result<Labels, Memory>
+    requires { cutting.now.axes ≡ vol.now.axes }
+    ensures axes { IfOk result (λ labels. labels.axes ≡ vol.now.axes) }
+    ensures basins { IfOk result (λ labels. AreBasins vol.now settings.now.low labels.labels) }
+{
+    if settings.workers > 1 {
+        basins_by_threads(rt, alloc, vol, settings.low)
+    } else {
+        basins(rt, alloc, vol, settings.low, cutting)
+    }
 }
 
 /// Merges basins, node by node.
@@ -85,9 +106,28 @@ fn agglomerate<R: Threads + Sync, G: Gate>(
     let workers = settings.workers.clamp(1, 32);
     let done = run_tree(rt, alloc, &site, workers, gate)?;
     Ok(Agglomeration {
-        merges: in_order(alloc, done.merges)?,
+        merges: ordered(rt, alloc, done.merges, workers)?,
         levels: done.levels,
     })
+}
+
+/// The merges in pair order, sorted by threads where there are several workers.
+fn ordered<R: Threads + Sync>(
+    rt: &R,
+    alloc: Global,
+    merges: Vec<Merge>,
+    workers: u32,
+) -> Result<Vec<Merge>, Memory>
+    requires apart { AllPairs DifferInRank merges.items }
+    ensures same_merges { IfOk result (λ sorted. IsPermutation merges.items sorted.items) }
+    ensures falling { IfOk result (λ sorted. AreFalling sorted.items) }
+{
+    if workers == 1 {
+        return in_order(alloc, merges);
+    }
+    let mut sorted = merges;
+    sort_by_threads(rt, &mut sorted);
+    Ok(sorted)
 }
 
 /// How many basins there are: a basin has the name of one of its voxels, the number of it plus 1.
