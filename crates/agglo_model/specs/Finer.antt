@@ -22,9 +22,13 @@ pub record IsFiner (c f : Chunking) (k : ℕ) : Type 0 where
 abbrev pub joined_levels : Level → Level → Level
 joined_levels low high = record { nodes = high.nodes; merges = low.merges + high.merges; passed = high.passed }
 
+-- the levels where the first two are one
+abbrev pub first_joined : List Level → List Level
+first_joined [] = []
+first_joined (level ∷ []) = level ∷ []
+first_joined (low ∷ high ∷ levels) = joined_levels low high ∷ levels
+
 -- the levels where the first k + 1 are one
 abbrev pub coarsened : ℕ → List Level → List Level
 coarsened zero levels = levels
-coarsened (suc k) [] = []
-coarsened (suc k) (level ∷ []) = level ∷ []
-coarsened (suc k) (low ∷ high ∷ levels) = coarsened k (joined_levels low high ∷ levels)
+coarsened (suc k) levels = coarsened k (first_joined levels)

@@ -177,9 +177,9 @@ module _ (c : Chunking) (leaf : Axes) (k : ℕ) (h : IsChunking c) (finer : IsFi
         let y = same_quotient 1 (coordinate c.axes v 1) place.in_y finer.on_y in
         let z = same_quotient 2 (coordinate c.axes v 2) place.in_z finer.on_z in
         let index : voxel_at (level_grid fine (j + k)) (coordinate c.axes v 0 / cell_length fine (j + k) 0)
-            (coordinate c.axes v 1 / cell_length fine (j + k) 1) (coordinate c.axes v 2 / cell_length fine (j + k) 2)
-            ≡ voxel_at (level_grid c j) (coordinate c.axes v 0 / cell_length c j 0)
-            (coordinate c.axes v 1 / cell_length c j 1) (coordinate c.axes v 2 / cell_length c j 2) =
+        (coordinate c.axes v 1 / cell_length fine (j + k) 1) (coordinate c.axes v 2 / cell_length fine (j + k) 2)
+        ≡ voxel_at (level_grid c j) (coordinate c.axes v 0 / cell_length c j 0)
+        (coordinate c.axes v 1 / cell_length c j 1) (coordinate c.axes v 2 / cell_length c j 2) =
         λ i. voxel_at (sym (same_grid j) i) (x i) (y i) (z i) in
         ap (λ l. node_at fine l v) same_level ∙ omega (arith, index, same_first j)
 

@@ -1,12 +1,11 @@
 -- What a cutting counts by levels follows from what a finer one counts: up to a level of the one, and up to the level
 -- of the other that has the same cells, all nodes together make a run of merges of the same pairs, so both make the
 -- same merges and leave the same labels.
-use Rattle.std.proofs.Common.{◌≡◌, ℕ, zero, suc, ◌+◌, ◌<◌, ◌≤◌, List, [], ◌∷◌, length, take, drop, get_or, sum_by, refl, sym, ap, ap₂, ◌∙◌, subst, add-one, zero-add, arith}
+use Rattle.std.proofs.Common.{◌≡◌, ℕ, zero, suc, ◌+◌, ◌<◌, ◌≤◌, List, [], ◌∷◌, length, take, drop, get_or, sum_by, refl, sym, ap, ap₂, ◌∙◌, subst, zero-add, arith}
 use Rattle.std.specs.List.{range_with_len}
 use Rattle.std.proofs.lemmas.List.{get_or-drop, length-drop}
-use Rattle.std.proofs.lemmas.List.Concat.{length-flat_map}
 use Rattle.std.proofs.lemmas.List.Sorted.{length_permutation}
-use Rattle.std.proofs.lemmas.List.Sums.{sum_by-cons, sum_by_more}
+use Rattle.std.proofs.lemmas.List.Sums.{sum_by-cons}
 use Rattle.agglo_model.specs.Axes.{Axes}
 use Rattle.agglo_model.specs.Grid.{Grid}
 use Rattle.agglo_model.specs.PairOrder.{Threshold}
@@ -28,7 +27,8 @@ use Rattle.work_laws.specs.FinerLaws.{FinerLevelsCoarsen}
 use Rattle.work_laws.proofs.AlikeCells.{residue_alike}
 use Rattle.work_laws.proofs.FinerCells.{within, same_count, same_first, same_nodes, on_finer, from_finer, same_reciprocal, same_residue}
 use Rattle.work_laws.proofs.LevelRuns.{IsLevelPair, level_pairs_kept, level_end, end_connected, end_agrees, after_connected, level_run}
-use Rattle.work_laws.proofs.RangeSums.{sum_end, sum_between}
+use Rattle.work_laws.proofs.LevelSums.{merges_of, by_level, merges_up_to}
+use Rattle.work_laws.proofs.RangeSums.{sum_end}
 
 -- ---- the levels where the first are one
 
@@ -61,9 +61,6 @@ joined_is : (k : ℕ) (low high : Level) (levels : List Level) (d : Level)
 joined_is zero low high levels d = (refl, refl)
 joined_is (suc k) low high levels d = (refl, refl)
 
-merges_of : Level → ℕ
-merges_of level = level.merges
-
 -- the first of them: the nodes of the last that went into it, with the merges of all
 abbrev first_levels : ℕ → List Level → Level → Level
 first_levels k levels d = record {
@@ -74,7 +71,6 @@ first_levels k levels d = record {
 
 coarsened_first : (k : ℕ) (levels : List Level) (d : Level) → k < length levels
     → get_or (coarsened k levels) 0 d ≡ first_levels k levels d
-unfolding merges_of
 coarsened_first zero [] d below = absurd (omega (arith, below))
 coarsened_first zero (level ∷ levels) d below =
     let one : level.merges ≡ sum_by merges_of (level ∷ []) = omega (arith, sum_by-cons merges_of level []) in
@@ -94,17 +90,6 @@ coarsened_first (suc k) (low ∷ high ∷ levels) d below =
     ∙ (λ i. record { nodes = same.0 i; merges = all i; passed = same.1 i })
 
 -- ---- sums
-
--- the merges of the nodes before a level, and those of the level
-by_level : (c : Chunking) (works : List (List Merge)) (j : ℕ) → first_node c (suc j) ≤ length works
-    → length (all_merges (take (first_node c j) works)) + sum_by (λ m. length (work_of works m)) (nodes_of c j)
-    ≡ length (all_merges (take (first_node c (suc j)) works))
-by_level c works j worked = omega (
-  arith,
-  length-flat_map (λ (work : List Merge). work) (take (first_node c j) works),
-  length-flat_map (λ (work : List Merge). work) (take (first_node c (suc j)) works),
-  sum_between (λ (work : List Merge). length work) works [] (first_node c j) (cells_at c j) worked,
-)
 
 shifted_sum : (f : ℕ → ℕ) (s a n : ℕ) → sum_by (λ m. f (s + m)) (range_with_len a n) ≡ sum_by f (range_with_len (s + a) n)
 shifted_sum f s a zero = refl
@@ -240,28 +225,14 @@ module _ (g : Grid) (t : Threshold) (c : Chunking) (leaf : Axes) (k : ℕ) (labe
       ∙ sym (shifted_sum count (first_node inner k) (first_node c j) (cells_at c j))
       ∙ (λ i. sum_by (λ m. length (sym (residue_is m) i).regions) (nodes_of c j))
 
-  -- the merges of the first levels of the finer cutting
-  merges_up_to : (i : ℕ) → i ≤ suc (last_level inner) → sum_by merges_of (take i levels)
-      ≡ length (all_merges (take (first_node inner i) is.works))
-  unfolding merges_of
-  merges_up_to zero le = refl
-  merges_up_to (suc i) le =
-      let d : Level = record { nodes = 0; merges = 0; passed = 0 } in
-      let more = sum_by_more merges_of levels i d (omega (arith, is.one_each)) in
-      let next : sum_by merges_of (take (i + 1) levels) ≡ sum_by merges_of (take (suc i) levels) =
-      ap (λ n. sum_by merges_of (take n levels)) (add-one i) in
-      let here : (get_or levels i d).merges ≡ sum_by (λ m. length (work_of is.works m)) (nodes_of inner i) =
-      ap (λ (l : Level). l.merges) (is.counted i d (omega arith)) in
-      omega (arith, more, next, here, merges_up_to i (omega arith), by_level inner is.works i (inner_worked i (omega arith)))
-
   first_merges : sum_by merges_of (take (suc k) levels) ≡ sum_by (λ m. length (work_of own.0 m)) (nodes_of c 0)
   first_merges =
       let same : length (all_merges (take (first_node inner (suc (0 + k))) is.works))
-          ≡ length (all_merges (take (first_node inner (suc k)) is.works)) =
+      ≡ length (all_merges (take (first_node inner (suc k)) is.works)) =
       ap (λ i. length (all_merges (take (first_node inner (suc i)) is.works))) (zero-add k) in
       omega (
         arith,
-        merges_up_to (suc k) (omega (arith, finer.levels)),
+        merges_up_to g t inner labels levels is (suc k) (omega (arith, finer.levels)),
         same,
         same_total 0 (omega arith),
         by_level c own.0 0 (own_worked 0 (omega arith)),
@@ -272,7 +243,7 @@ module _ (g : Grid) (t : Threshold) (c : Chunking) (leaf : Axes) (k : ℕ) (labe
   later_merges j reached =
       let one : suc (j + k) ≡ suc j + k = omega arith in
       let before : length (all_merges (take (first_node inner (suc (j + k))) is.works))
-          ≡ length (all_merges (take (first_node inner (suc j + k)) is.works)) =
+      ≡ length (all_merges (take (first_node inner (suc j + k)) is.works)) =
       ap (λ i. length (all_merges (take (first_node inner i) is.works))) one in
       omega (
         arith,
@@ -292,7 +263,7 @@ module _ (g : Grid) (t : Threshold) (c : Chunking) (leaf : Axes) (k : ℕ) (labe
       let nodes : cells_at inner k ≡ cells_at c 0 =
       ap (cells_at inner) (sym (zero-add k)) ∙ sym (same_count c leaf k h finer 0) in
       let passed : sum_by (λ m. length (residue_of is.residues m).regions) (nodes_of inner k)
-          ≡ sum_by (λ m. length (residue_of residues m).regions) (nodes_of c 0) =
+      ≡ sum_by (λ m. length (residue_of residues m).regions) (nodes_of c 0) =
       ap (λ i. sum_by (λ m. length (residue_of is.residues m).regions) (nodes_of inner i)) (sym (zero-add k)) ∙ same_passed 0 in
       coarsened_first k levels d some_levels
       ∙ (λ i. record {

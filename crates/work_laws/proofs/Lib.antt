@@ -24,4 +24,5 @@ pub mod RangeSums
 pub mod AlikeCells
 pub mod LevelRuns
 pub mod FinerCells
+pub mod LevelSums
 pub mod FinerLevels
