@@ -36,8 +36,8 @@ struct Agglomeration {
 
 /// The segmentation of a volume that is cut into chunks: its basins, merged by mean affinity as greedy
 /// agglomeration of the whole volume merges them. How the volume is cut shows in the counts of levels alone.
-/// The gate is told of each node once before it is merged. There is a label for each voxel, and a count for
-/// each level of the cutting. The only error is want of memory.
+/// The gate is told of each node that is worked once before it is merged; a large leaf is cut inside, into several.
+/// There is a label for each voxel, and a count for each level of the cutting. The only error is want of memory.
 ///
 /// The basins are after Zlateski and Seung, arXiv 1505.00249 (2015); work by chunks, with decisions at their
 /// borders delayed until the neighbours are there, is after Lu, Zlateski and Seung, arXiv 2106.10795 (2021).
