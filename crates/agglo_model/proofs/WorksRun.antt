@@ -40,7 +40,7 @@ works_then g t c n labels last (work ∷ works) are at_end none =
     (sym (fold-append after_merge labels work (all_merges works)) ∙ at_end) none)
 
 -- a work ends where its node has no reciprocal pair
-work_ends : (g : Grid) (t : Threshold) (c : Chunking) (m : ℕ) (labels : List ℕ) (work : List Merge)
+pub work_ends : (g : Grid) (t : Threshold) (c : Chunking) (m : ℕ) (labels : List ℕ) (work : List Merge)
     → IsWork g t c m labels work → (a b : ℕ) → ¬ (IsReciprocal g t c m (after_merges labels work) a b)
 work_ends g t c m labels [] work a b = work a b
 work_ends g t c m labels (step ∷ steps) work a b = work_ends g t c m (after_merge labels step) steps work.1 a b

@@ -21,6 +21,7 @@ pub mod Boxes
 pub mod Cutting
 pub mod CuttingExamples
 pub mod CuttingLaws
+pub mod Finer
 pub mod LabelMap
 pub mod Laws
 pub mod Examples

@@ -10,7 +10,7 @@ use Rattle.agglo_model.specs.Work.{work_of}
 use Rattle.agglo_model.specs.RegionGraph.{RegionGraph, residue_of}
 use Rattle.agglo_model.proofs.Levels.{IsOnLevel, first_node_le}
 use Rattle.chunk_run.specs.Turns.{nodes_among, count_among, with_node}
-use Rattle.chunk_run.proofs.RangeSums.{sum_end, same_sums}
+use Rattle.work_laws.proofs.RangeSums.{sum_end, same_sums}
 
 -- how many of the first m nodes are on level k
 abbrev pub size_among : Chunking → ℕ → ℕ → ℕ

@@ -1,7 +1,6 @@
 pub mod Families
 pub mod NodeTurns
 pub mod Taking
-pub mod RangeSums
 pub mod LevelCounts
 pub mod Kids
 pub mod Going

@@ -24,7 +24,7 @@ use Rattle.agglo_model.proofs.Members.{Contains-map, Contains-filter}
 use Rattle.agglo_model.proofs.Tests.{count_le}
 use Rattle.chunk_run.specs.Turns.{nodes_among}
 use Rattle.chunk_run.proofs.LevelCounts.{size_among}
-use Rattle.chunk_run.proofs.RangeSums.{sum_end, lesser_sum}
+use Rattle.work_laws.proofs.RangeSums.{sum_end, lesser_sum}
 use Rattle.chunk_run.proofs.Numbers.{numbers_differ}
 
 -- ---- distinct names that voxels have

@@ -15,7 +15,7 @@ use Rattle.region_graph.specs.SiteView.{SiteView, IsSite}
 use Rattle.chunk_run.specs.Turns.{HasRoom, HasWorked, level_at, no_node, with_node, nodes_among}
 use Rattle.chunk_run.proofs.FewerNames.{AreUpTo, few_merges}
 use Rattle.chunk_run.proofs.PassedNames.{passed-le}
-use Rattle.chunk_run.proofs.RangeSums.{sum_places-le}
+use Rattle.work_laws.proofs.RangeSums.{sum_places-le}
 
 -- all numbers fit 32 bits
 pub record AreSmall (level : Level) : Type 0 where

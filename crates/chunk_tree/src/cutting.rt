@@ -1,15 +1,19 @@
-ghost use Rattle.std.specs.Prelude.{◌≡◌, ◌+◌, ◌*◌, ◌^◌, ◌<◌, ◌≤◌, ◌∷◌, [], MatchOption, MatchResult, None, Some};
+ghost use Rattle.std.specs.Prelude.{◌≡◌, ◌+◌, ◌*◌, ◌^◌, ◌<◌, ◌≤◌, ◌∷◌, [], max, IfSome, MatchOption, MatchResult, None, Some};
 ghost use Rattle.agglo_model.specs.Axes.{voxel_count};
 ghost use Rattle.agglo_model.specs.Cutting.{Chunking, IsChunking, artificial_faces, cell_length, cells_at, child, child_count, chunking, first_node, high_corner, last_level, leaf_of, level_grid, level_of, low_corner, node_count, parent, root, sizes_flaw};
+ghost use Rattle.agglo_model.specs.Finer.{IsFiner};
 ghost use Rattle.chunk_tree.specs.Flaw.{flaw_of};
 ghost use Rattle.chunk_tree.specs.Levels.{AreChildren, IsLevel};
 
-use crate::level::{Children, Level, bit, grid_of, span};
+use crate::level::{Children, Level, bit, grid_of, piece, span};
 use seg_base::{Cell, Dims};
 use std::marker::Model;
 
 /// The most leaves that a cutting may have.
 const MOST_LEAVES: u32 = 1 << 18;
+
+/// The most levels that a cutting may have.
+const MOST_LEVELS: u32 = 17;
 
 /// Why a volume is not cut into leaves of three sizes. Axis 0 is x, 1 is y and 2 is z.
 #[derive(Clone, Copy)]
@@ -29,6 +33,14 @@ pub struct Cutting {
     dims: Dims,
     leaf: Dims,
     leaves: Dims,
+}
+
+/// A cutting that goes on inside the leaves of another one.
+#[derive(Clone, Copy)]
+pub struct Finer {
+    pub cutting: Cutting,
+    /// How many levels it has below those of the other.
+    pub levels: u32,
 }
 
 impl Model for Cutting {
@@ -77,6 +89,52 @@ impl Cutting {
             leaf,
             leaves,
         })
+    }
+
+    /// The cutting whose leaves are made by halving those of this one on each axis, as often as a side is longer than
+    /// `side` voxels. A leaf is cut only where the halves make it up: a side has to be even, or the whole axis.
+    #[tactic(auto, using(crate::proofs::Halving::no_finer))]
+    pub fn finer(&self, side: u32) -> Finer
+        ensures finer { IsFiner self.now result.cutting result.levels }
+        ensures cutting { IsChunking self.now }
+    {
+        let mut cutting = *self;
+        let mut levels = 0;
+        let mut longest = self.longest_side();
+        for times in 1..MOST_LEVELS {
+            if longest > side {
+                if let Some(halved) = self.halved(times) {
+                    longest = halved.longest_side();
+                    cutting = halved;
+                    levels = times;
+                }
+            }
+        }
+        Finer { cutting, levels }
+    }
+
+    /// The longest side of a leaf.
+    fn longest_side(&self) -> u32
+        ensures value { result ≡ max (max self.now.leaf.nx self.now.leaf.ny) self.now.leaf.nz }
+        ensures cutting { IsChunking self.now }
+    {
+        self.leaf.nx().max(self.leaf.ny()).max(self.leaf.nz())
+    }
+
+    /// The cutting whose leaves are made by halving those of this one so often, unless they do not make them up, or
+    /// are too many, or have no halves left.
+    fn halved(&self, times: u32) -> Option<Cutting>
+        requires { times < 17 }
+        ensures { IfSome result (λ cutting. IsFiner self.now cutting times) }
+    {
+        let parts = 2u32.pow(times);
+        let x = piece(self.leaf.nx(), self.dims.nx(), parts)?;
+        let y = piece(self.leaf.ny(), self.dims.ny(), parts)?;
+        let z = piece(self.leaf.nz(), self.dims.nz(), parts)?;
+        match Cutting::new(&self.dims, [x, y, z]) {
+            Ok(cutting) if cutting.levels() == self.levels() + times => Some(cutting),
+            _ => None,
+        }
     }
 
     /// The axes of the volume.

@@ -1,4 +1,4 @@
-ghost use Rattle.std.specs.Prelude.{◌≡◌, ◌*◌, ◌+◌, ◌<◌, ◌≤◌, min, if◌then◌else◌};
+ghost use Rattle.std.specs.Prelude.{◌≡◌, ◌⊎◌, ◌*◌, ◌+◌, ◌<◌, ◌≤◌, min, if◌then◌else◌, IfSome};
 ghost use Rattle.agglo_model.specs.Axes.{Axes, IsWithinLimits};
 
 use seg_base::Dims;
@@ -43,6 +43,26 @@ pub(crate) fn span(place: u32, length: u32, axis: u32) -> (u32, u32)
     let low = place * length;
     let high = low.saturating_add(length).min(axis);
     (low, high)
+}
+
+/// How long the pieces are where a side of a cell is cut into so many, if they make it up: they end where the side
+/// does, or past it where it is the whole axis.
+pub(crate) fn piece(side: u32, axis: u32, parts: u32) -> Option<u32>
+    requires side { 0 < side }
+    requires axis { side ≤ axis }
+    requires axis_fits { axis ≤ 65535 }
+    requires parts { 0 < parts }
+    requires parts_fit { parts ≤ 65536 }
+    ensures some { IfSome result (λ length. 0 < length) }
+    ensures most { IfSome result (λ length. length ≤ axis) }
+    ensures fills { IfSome result (λ length. (side ≡ length * parts) ⊎ ((axis ≤ side) × (axis ≤ length * parts))) }
+{
+    let length = side.div_ceil(parts);
+    if side == axis || length * parts == side {
+        Some(length)
+    } else {
+        None
+    }
 }
 
 /// The value of a bit that is set, and else 0.

@@ -9,6 +9,6 @@ mod cutting;
 mod kids;
 mod level;
 
-pub use cutting::{CutFault, Cutting};
+pub use cutting::{CutFault, Cutting, Finer};
 pub use kids::Kids;
 pub use level::bit;

@@ -1,5 +1,5 @@
 -- When all nodes have been worked: the merges are a run of the whole volume, and the levels are counted.
-use Rattle.std.proofs.Common.{◌≡◌, ℕ, suc, ◌-◌, ◌^◌, ◌≤◌, min, List, length, get_or, sum_by, Option, sym, ◌∙◌, subst, arith}
+use Rattle.std.proofs.Common.{◌≡◌, ℕ, suc, ◌-◌, ◌^◌, ◌<◌, ◌≤◌, min, List, length, get_or, sum_by, Option, sym, ◌∙◌, subst, arith}
 use Rattle.std.specs.Prelude.{All}
 use Rattle.std.specs.List.{range_with_len}
 use Rattle.std.proofs.Math.Nat.{mul-pos}
@@ -22,6 +22,8 @@ use Rattle.agglo_model.proofs.Levels.{first_node_le}
 use Rattle.merge_tree.specs.Renaming.{HasSmallNames}
 use Rattle.region_graph.specs.SiteView.{SiteView}
 use Rattle.chunk_run.specs.Turns.{HasWorked, count_among}
+use Rattle.chunk_run.proofs.FewerNames.{few_merges}
+use Rattle.work_laws.proofs.LevelSums.{all_merges_counted}
 
 -- a level counts all its nodes
 all_counted : (c : Chunking) (works : List (List Merge)) (residues : List RegionGraph) (k : ℕ) → k ≤ last_level c
@@ -83,3 +85,15 @@ greedy_names lawful bounded g whole low labels basins t merges greedy =
     small_names g.axes t merges h.most_voxels
     (lawful g t labels merges (mul-pos (mul-pos h.some_x h.some_y) h.some_z) (bytes_of g whole)
     (all_at_most labels (voxel_count g.axes) (bounded g low labels basins)) greedy)
+
+-- the merges of all levels fit 32 bits
+pub few_counted : LabelsAreBounded → (g : Grid) → IsWhole g → (low : ℕ) (labels : List ℕ) → AreBasins g low labels
+    → (t : Threshold) (c : Chunking) (levels : List Level) → AreLevels g t c labels levels
+    → sum_by (λ (level : Level). level.merges) levels < 2 ^ 32
+few_counted bounded g whole low labels basins t c levels are = omega (
+  arith,
+  all_merges_counted g t c labels levels are,
+  few_merges g t c (voxel_count g.axes) labels are.works are.works_are.worked
+      (λ x (v, is). omega (arith, bounded g low labels basins v, is)),
+  whole.limits.most_voxels,
+)

@@ -2,3 +2,4 @@ pub mod Ordered
 pub mod ReportLines
 pub mod TiesApart
 pub mod Ending
+pub mod JoinedLevels

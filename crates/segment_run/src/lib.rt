@@ -7,6 +7,7 @@
 
 mod answer;
 mod basin_run;
+mod coarsening;
 mod report;
 mod segmenting;
 

@@ -1,4 +1,4 @@
-ghost use Rattle.std.specs.Prelude.{◌≡◌, ℕ, All, AllPairs, IfOk, IsPermutation, length};
+ghost use Rattle.std.specs.Prelude.{◌≡◌, ◌<◌, ◌^◌, ℕ, All, AllPairs, IfOk, IsPermutation, length, sum_by};
 ghost use Rattle.agglo_model.specs.Basins.{AreBasins, names};
 ghost use Rattle.agglo_model.specs.Greedy.{IsGreedyRun, after_merges};
 ghost use Rattle.agglo_model.specs.Grid.{Grid};
@@ -9,6 +9,7 @@ ghost use Rattle.merge_tree.specs.Renaming.{HasSmallNames};
 
 use crate::answer::{Answer, Settings};
 use crate::basin_run::{basins, basins_by_threads};
+use crate::coarsening::coarsen;
 use agglo_model::Memory;
 use agglo_model::laws::{bounded_labels, counted_names};
 use agglo_model::laws_of_merging::{greedy_merges_are_lawful, sorted_merges_are_greedy};
@@ -21,6 +22,10 @@ use seg_base::Labels;
 use std::alloc::Global;
 use std::thread::Threads;
 use volume_file::Volume;
+use work_laws::finer_levels_coarsen;
+
+/// The longest side of a leaf, in voxels, that is worked as a whole if it can be halved.
+const INNER_SIDE: u32 = 64;
 
 /// The merges of all nodes, in pair order, and what each level did.
 #[derive(Drop)]
@@ -31,8 +36,8 @@ struct Agglomeration {
 
 /// The segmentation of a volume that is cut into chunks: its basins, merged by mean affinity as greedy
 /// agglomeration of the whole volume merges them. How the volume is cut shows in the counts of levels alone.
-/// The gate is told of each node once before it is merged. There is a label for each voxel, and a count for
-/// each level of the cutting. The only error is want of memory.
+/// The gate is told of each node that is worked once before it is merged; a large leaf is cut inside, into several.
+/// There is a label for each voxel, and a count for each level of the cutting. The only error is want of memory.
 ///
 /// The basins are after Zlateski and Seung, arXiv 1505.00249 (2015); work by chunks, with decisions at their
 /// borders delayed until the neighbours are there, is after Lu, Zlateski and Seung, arXiv 2106.10795 (2021).
@@ -51,7 +56,7 @@ pub fn segment<R: Threads + Sync, G: Gate>(
 {
     let labels = start_labels(rt, alloc, vol, cutting, settings)?;
     let count = count_basins(&labels);
-    let done = agglomerate(rt, alloc, vol, &labels, cutting, settings, gate)?;
+    let done = agglomerate_inside(rt, alloc, vol, &labels, cutting, settings, gate)?;
     Ok(Answer {
         labels: renamed(rt, alloc, labels, &done.merges, settings.workers)?,
         basins: count,
@@ -79,6 +84,34 @@ fn start_labels<R: Threads + Sync>(
     }
 }
 
+/// Merges basins over a cutting that goes on inside leaves with sides above `INNER_SIDE`, so that they take no more
+/// memory than others, and several workers can work one leaf. The levels are those of the cutting that was given.
+fn agglomerate_inside<R: Threads + Sync, G: Gate>(
+    rt: &R,
+    alloc: Global,
+    vol: &Volume,
+    labels: &Labels,
+    cutting: &Cutting,
+    settings: &Settings,
+    gate: &G,
+) -> Result<Agglomeration, Memory>
+    requires labels_fit { labels.now.axes ≡ vol.now.axes }
+    requires cutting_fits { cutting.now.axes ≡ vol.now.axes }
+    requires basins { (low : ℕ) × AreBasins vol.now low labels.now.labels }
+    ensures greedy { IfOk result (λ done. IsGreedyRun vol.now settings.now.threshold labels.now.labels done.merges.items) }
+    ensures small { IfOk result (λ done. All HasSmallNames done.merges.items) }
+    ensures levels { IfOk result (λ done. AreLevels vol.now settings.now.threshold cutting.now labels.now.labels done.levels.items) }
+{
+    basins_are_connected();
+    finer_levels_coarsen();
+    let finer = cutting.finer(INNER_SIDE);
+    let done = agglomerate(rt, alloc, vol, labels, &finer.cutting, settings, gate)?;
+    Ok(Agglomeration {
+        merges: done.merges,
+        levels: coarsen(done.levels, finer.levels),
+    })
+}
+
 /// Merges basins, node by node.
 fn agglomerate<R: Threads + Sync, G: Gate>(
     rt: &R,
@@ -95,6 +128,7 @@ fn agglomerate<R: Threads + Sync, G: Gate>(
     ensures greedy { IfOk result (λ done. IsGreedyRun vol.now settings.now.threshold labels.now.labels done.merges.items) }
     ensures small { IfOk result (λ done. All HasSmallNames done.merges.items) }
     ensures levels { IfOk result (λ done. AreLevels vol.now settings.now.threshold cutting.now labels.now.labels done.levels.items) }
+    ensures few { IfOk result (λ done. sum_by (λ level. level.merges) done.levels.items < 2 ^ 32) }
 {
     basins_are_connected();
     works_are_a_run();

@@ -20,3 +20,9 @@ pub mod RenamedNames
 pub mod NodeSteps
 pub mod NodeAfter
 pub mod SettledNodes
+pub mod RangeSums
+pub mod AlikeCells
+pub mod LevelRuns
+pub mod FinerCells
+pub mod LevelSums
+pub mod FinerLevels

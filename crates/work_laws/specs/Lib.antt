@@ -1,2 +1,3 @@
 pub mod SettlingLaws
 pub mod Turns
+pub mod FinerLaws

@@ -6,6 +6,7 @@
 #![tactic(auto)]
 
 ghost use Rattle.agglo_model.specs.JoiningLaws.{JoinedStart, LeavesStart};
+ghost use Rattle.work_laws.specs.FinerLaws.{FinerLevelsCoarsen};
 ghost use Rattle.work_laws.specs.SettlingLaws.{SettlingCellIsWork, SettlingIsWork, SettlingJoinedIsWork};
 ghost use Rattle.work_laws.specs.Turns.{LeavesTakeTurns, NodesTakeTurns, ParentsTakeTurns, ResiduesStay};
 
@@ -54,4 +55,10 @@ pub fn parents_take_turns()
 /// The residue of a node stays its residue when the works go on.
 pub fn residues_stay()
     ensures { ResiduesStay }
+{}
+
+/// The levels of a cutting are those of a finer one, where the first of these are one: so it does not show whether a
+/// leaf is worked as a whole, or cut inside.
+pub fn finer_levels_coarsen()
+    ensures { FinerLevelsCoarsen }
 {}

@@ -49,6 +49,41 @@ fn cuttings_have_levels_up_to_a_root(rt: HostRuntime) -> Result<(), Fail> {
     Ok(())
 }
 
+/// Of each cutting the axes, the size of a leaf, and the one with sides up to 64 inside its leaves.
+const FINER: &[([u32; 3], [u32; 3], &str)] = &[
+    ([64, 64, 64], [64, 64, 64], "levels 0 leaves 1"),
+    ([256, 256, 256], [256, 256, 256], "levels 2 leaves 64"),
+    // a whole axis need not be even
+    ([65, 3, 1], [65, 3, 1], "levels 1 leaves 4"),
+    ([100, 260, 4], [100, 130, 4], "levels 1 leaves 16"),
+    // one half of a leaf would be longer than the other
+    ([300, 1, 1], [150, 1, 1], "levels 1 leaves 4"),
+    ([300, 1, 1], [75, 1, 1], "levels 0 leaves 4"),
+];
+
+/// How many levels the cutting inside leaves has more, and how many leaves.
+fn told_finer(alloc: Global, axes: [u32; 3], chunk: [u32; 3]) -> Result<String, Fail> {
+    let [nx, ny, nz] = axes;
+    let Ok(dims) = Dims::new(nx, ny, nz) else {
+        return Err("no axes of a volume".into());
+    };
+    let Ok(cutting) = Cutting::new(&dims, chunk) else {
+        return Err("no cutting".into());
+    };
+    let finer = cutting.finer(64);
+    let leaves = finer.cutting.leaves();
+    Ok(format!(in alloc; "levels {} leaves {leaves}", finer.levels)?)
+}
+
+#[test]
+fn leaves_are_halved(rt: HostRuntime) -> Result<(), Fail> {
+    for (axes, chunk, wanted) in FINER {
+        let text = told_finer(rt.alloc(), *axes, *chunk)?;
+        expect_text(&rt, &text, wanted, wanted);
+    }
+    Ok(())
+}
+
 /// Two leaves and a root: of each node the level, the parent, the number of children, the artificial faces, and the
 /// corners of the cell.
 const NODES: &str =

@@ -120,3 +120,45 @@ fn a_row_and_its_report(rt: HostRuntime) -> Result<(), Fail> {
     }
     Ok(())
 }
+
+/// The segmentation of a long volume in chunks of this length.
+fn segmented_by<R: Threads + Sync>(rt: &R, alloc: Global, chunk: u32) -> Result<Answer, Fail> {
+    let Ok(threshold) = Threshold::new(2, 1) else {
+        return Err("no threshold".into());
+    };
+    let settings = Settings {
+        low: 1,
+        threshold,
+        workers: 2,
+    };
+    let vol = volume(alloc, [130, 3, 2], 5, 7)?;
+    let Ok(cutting) = Cutting::new(vol.dims(), [chunk, 3, 2]) else {
+        return Err("no cutting".into());
+    };
+    Ok(segment(rt, alloc, &vol, &cutting, &settings, &Open)?)
+}
+
+/// What shows of the levels: of each the nodes and the merges.
+fn told_levels(alloc: Global, answer: &Answer) -> Result<String, Fail> {
+    let mut told = String::new(alloc);
+    for level in &answer.levels {
+        write!(told, "{} nodes {} merges;", level.nodes, level.merges)?;
+    }
+    Ok(told)
+}
+
+#[test]
+fn a_leaf_that_is_cut_inside_counts_as_one(rt: HostRuntime) -> Result<(), Fail> {
+    let whole = segmented_by(&rt, rt.alloc(), 130)?;
+    let cut = segmented_by(&rt, rt.alloc(), 9)?;
+    let merges = told_merges(rt.alloc(), &whole.merges)?;
+    expect_text(
+        &rt,
+        &told_merges(rt.alloc(), &cut.merges)?,
+        &merges,
+        "merges",
+    );
+    let levels = format!(in rt.alloc(); "1 nodes {} merges;", whole.merges.len())?;
+    expect_text(&rt, &told_levels(rt.alloc(), &whole)?, &levels, "levels");
+    Ok(())
+}

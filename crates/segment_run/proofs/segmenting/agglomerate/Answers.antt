@@ -1,6 +1,6 @@
 use Rattle.std.proofs.Common.{subst}
 use Rattle.region_graph.specs.SiteView.{IsSite}
-use Rattle.segment_run.proofs.Ending.{ended_at, greedy_names}
+use Rattle.segment_run.proofs.Ending.{ended_at, few_counted, greedy_names}
 use Rattle.segment_run.proofs.TiesApart.{ties_apart}
 use Rattle.segment_run.proofs.segmenting.agglomerate.Goals as goal
 
@@ -45,3 +45,13 @@ returns-clause-levels g c =
     let run = c.in_ok-done.ensures.run in
     (ended_at c.new-site.result _ c.new-site.ensures run.0 done.merges.items done.levels.items
     run.1.so_far c.works_are_a_run.ensures).levels_are
+
+pub returns-clause-few : goal.returns-clause-few
+returns-clause-few g c =
+    let done = c.in_ok-done.done in
+    let run = c.in_ok-done.ensures.run in
+    let end = ended_at c.new-site.result _ c.new-site.ensures run.0 done.merges.items done.levels.items
+    run.1.so_far c.works_are_a_run.ensures in
+    let site = subst IsSite c.new-site.ensures c.run_tree.ensures.site in
+    few_counted c.bounded_labels.ensures c.args.vol.now site.whole c.requires.basins.0 c.args.labels.now.labels
+    c.requires.basins.1 c.args.settings.now.threshold c.args.cutting.now done.levels.items end.levels_are

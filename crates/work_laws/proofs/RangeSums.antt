@@ -32,7 +32,7 @@ lesser_sum f g a (suc n) less =
     omega (arith, sum_end f a n, sum_end g a n)
 
 -- what is at the places of a range is part of a list
-sum_between : {X : Type 0} (f : X → ℕ) (xs : List X) (d : X) (a n : ℕ) → a + n ≤ length xs
+pub sum_between : {X : Type 0} (f : X → ℕ) (xs : List X) (d : X) (a n : ℕ) → a + n ≤ length xs
     → sum_by f (take a xs) + sum_by (λ k. f (get_or xs k d)) (range_with_len a n) ≡ sum_by f (take (a + n) xs)
 sum_between f xs d a zero inside =
     add-zero (sum_by f (take a xs)) ∙ ap (λ k. sum_by f (take k xs)) (sym (add-zero a))
