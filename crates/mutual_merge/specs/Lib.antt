@@ -4,6 +4,7 @@ pub mod Pairs
 pub mod Merged
 pub mod Left
 pub mod Trimmed
+pub mod Parts
 pub mod Rounds
 pub mod Slots
 pub mod HubEntries
