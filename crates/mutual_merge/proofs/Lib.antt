@@ -15,7 +15,10 @@ pub mod KeptRegions
 pub mod LeftGraphs
 pub mod KeptPlaces
 pub mod SameContacts
+pub mod ReachingEdges
+pub mod ClosedParts
 pub mod TrimmedGraphs
+pub mod PartsSettled
 pub mod MadeRegions
 pub mod ClosedGraph
 pub mod LinkedStands
