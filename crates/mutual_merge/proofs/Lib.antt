@@ -36,3 +36,5 @@ mod FirstPair
 mod MergedInto
 mod ReadyHubs
 mod HubFirsts
+mod ParentPlaces
+mod GroupParts
