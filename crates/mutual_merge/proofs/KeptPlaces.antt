@@ -6,14 +6,14 @@ use Rattle.std.proofs.lemmas.List.{get_or_append_left, get_or_push, length_push}
 use Rattle.std.proofs.lemmas.List.Elements.{All-contains}
 use Rattle.std.proofs.lemmas.Bool.{and_parts, both_ways}
 use Rattle.agglo_model.specs.PairOrder.{Threshold}
-use Rattle.agglo_model.specs.RegionGraph.{Region, RegionGraph, IsGraph, IsWithinEdges}
+use Rattle.agglo_model.specs.RegionGraph.{Region, IsGraph, IsWithinEdges}
 use Rattle.agglo_model.specs.Settling.{IsLeftOf}
 use Rattle.agglo_model.proofs.Members.{contains_head, contains_tail, Contains-unmap, All-from_contains, Contains-unfilter}
 use Rattle.agglo_model.proofs.Cases.{below_next}
 use Rattle.mutual_merge.specs.declared.links.Link.{Link}
 use Rattle.mutual_merge.specs.Linked.{AreLinked, IsLink, region_at, name_at, edge_by, edges_by, graph_of}
 use Rattle.mutual_merge.specs.Left.{AreLeft, is_kept, edges_left, regions_left}
-use Rattle.mutual_merge.specs.Trimmed.{AreKept, AreTrimmed, kept_links, link_at}
+use Rattle.mutual_merge.specs.Trimmed.{AreKept, AreTrimmed, IsPart, kept_graph, kept_links, link_at}
 use Rattle.mutual_merge.proofs.KeptRegions.{kept_upto-take, kept_upto-skip}
 use Rattle.mutual_merge.proofs.LeftGraphs.{edges_left-fewer, IsGraph-left, IsWithinEdges-left, IsLeftOf-left}
 use Rattle.mutual_merge.proofs.LinkedEdges.{AreLinked-from_edges, IsInside, same_sums}
@@ -92,8 +92,8 @@ kept_all regions kept i left places end all =
     let whole = subst (λ n. AreKeptTo regions kept n left places) end all in
     record { regions_are = whole.regions_are; few = whole.few; one_each = whole.one_each; inside = whole.inside; same = whole.same }
 
-module _ (t : Threshold) (faces : ℕ) (regions : List Region) (links : List Link) (kept : List Bool) (left : List Region) (places : List ℕ)
-    (linked : AreLinked regions links) (are_left : AreLeft t faces regions links kept) (are_kept : AreKept regions kept left places) where
+module _ (regions : List Region) (links : List Link) (kept : List Bool) (left : List Region) (places : List ℕ)
+    (linked : AreLinked regions links) (are_kept : AreKept regions kept left places) where
   abbrev chosen : List Link
   chosen = filter (λ l. is_kept kept l.a && is_kept kept l.b) links
 
@@ -137,14 +137,11 @@ module _ (t : Threshold) (faces : ℕ) (regions : List Region) (links : List Lin
         b_in = are_kept.inside found.0.b ends.b_in ends.b_kept;
       }))
 
-  abbrev kept_graph : RegionGraph
-  kept_graph = record { regions = regions_left regions kept; edges = edges_left regions links kept }
-
-  same_graph : kept_graph ≡ graph_of left (kept_links kept places links)
+  same_graph : kept_graph regions links kept ≡ graph_of left (kept_links kept places links)
   same_graph = λ i. record { regions = sym are_kept.regions_are i; edges = sym same_edges i }
 
-  pub trimmed : AreTrimmed t faces regions links left (kept_links kept places links)
-  trimmed = record {
+  pub part_is : IsPart regions links kept left (kept_links kept places links)
+  part_is = record {
     linked =
         let fit = linked.fit in
         let few = are_kept.few in
@@ -160,5 +157,16 @@ module _ (t : Threshold) (faces : ℕ) (regions : List Region) (links : List Lin
         let same = ap (sum_by (λ e. e.contact.count)) same_edges in
         let least = edges_left-fewer regions links kept in
         omega (arith, mine, same, least);
-    left_is = subst (IsLeftOf t faces (graph_of regions links)) same_graph (IsLeftOf-left regions links kept linked t faces are_left);
+    graph_is = same_graph;
   }
+
+-- where what is left is kept, the part is what is left
+pub trimmed : (t : Threshold) (faces : ℕ) (regions : List Region) (links : List Link) (kept : List Bool) (left : List Region)
+    (left_links : List Link) → AreLinked regions links → AreLeft t faces regions links kept
+    → IsPart regions links kept left left_links → AreTrimmed t faces regions links left left_links
+trimmed t faces regions links kept left left_links linked are_left part = record {
+  linked = part.linked;
+  few = part.few;
+  fewer = part.fewer;
+  left_is = subst (IsLeftOf t faces (graph_of regions links)) part.graph_is (IsLeftOf-left regions links kept linked t faces are_left);
+}

@@ -39,3 +39,5 @@ mod FirstPair
 mod MergedInto
 mod ReadyHubs
 mod HubFirsts
+mod ParentPlaces
+mod GroupParts

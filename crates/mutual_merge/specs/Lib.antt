@@ -5,6 +5,7 @@ pub mod Merged
 pub mod Left
 pub mod Trimmed
 pub mod Parts
+pub mod Groups
 pub mod Rounds
 pub mod Slots
 pub mod HubEntries

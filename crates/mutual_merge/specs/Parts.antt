@@ -33,11 +33,15 @@ no_graph = record { regions = []; edges = [] }
 abbrev pub SettlesFree : Threshold → RegionGraph → List Merge → Type 0
 SettlesFree t graph merges = (left : RegionGraph) × Settles t 0 graph merges left
 
+-- a link that reaches the threshold joins regions of one group
+abbrev pub AreTogether : Threshold → List ℕ → Link → Type 0
+AreTogether t groups l = Reaches t l.contact → slice_index groups l.a ≡ slice_index groups l.b
+
 -- each region has the number of a group, of which there are `count`, and links that reach the threshold join regions of one group
 pub record AreGroups (t : Threshold) (regions : List Region) (links : List Link) (count : ℕ) (groups : List ℕ) : Type 0 where
   pub one_each : length groups ≡ length regions
   pub below : All (λ group. group < count) groups
-  pub joined : All (λ l. Reaches t l.contact → slice_index groups l.a ≡ slice_index groups l.b) links
+  pub joined : All (AreTogether t groups) links
 
 -- the part of a graph that has the regions of one group
 pub record IsGroup (t : Threshold) (regions : List Region) (links : List Link) (groups : List ℕ) (group : ℕ) (part : RegionGraph) : Type 0 where

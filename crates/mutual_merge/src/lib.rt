@@ -8,6 +8,8 @@
 mod chains;
 mod closing;
 mod firsts;
+mod group_parts;
+mod groups;
 mod hubs;
 mod links;
 mod listing;

@@ -1,7 +1,7 @@
 ghost use Rattle.std.specs.Prelude.{◌≡◌, ◌≤◌, IfOk};
 ghost use Rattle.agglo_model.specs.RegionGraph.{grid_edges};
 ghost use Rattle.agglo_model.specs.Settling.{Settles};
-ghost use Rattle.mutual_merge.specs.Linked.{AreLinked, graph_of};
+ghost use Rattle.mutual_merge.specs.Linked.{AreLinked, graph_of, link_edges};
 ghost use Rattle.mutual_merge.specs.Rounds.{HasMerged, IsSettled};
 
 use crate::chains::{Chained, merge_chains};
@@ -47,6 +47,21 @@ pub fn settle(
     ensures fewer { IfOk result (λ settled. grid_edges settled.residue ≤ grid_edges graph) }
 {
     let start = linked(alloc, graph)?;
+    settle_linked(alloc, start, threshold, frozen)
+}
+
+/// `settle`, of a graph with links in the place of its edges.
+pub fn settle_linked(
+    alloc: Global,
+    start: LinkedGraph,
+    threshold: &Threshold,
+    frozen: u8,
+) -> Result<Settled, Memory>
+    requires { AreLinked start.regions.items start.links.items }
+    ensures settles { IfOk result (λ settled. Settles threshold.now frozen (graph_of start.regions.items start.links.items)
+        settled.merges.items settled.residue) }
+    ensures fewer { IfOk result (λ settled. grid_edges settled.residue ≤ link_edges start.links.items) }
+{
     let trimmed = trim(alloc, &start, threshold, frozen)?;
     drop(start);
     let Chained { graph, mut merges } = merge_chains(alloc, trimmed, threshold, frozen)?;

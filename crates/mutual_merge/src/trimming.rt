@@ -1,6 +1,6 @@
 ghost use Rattle.std.specs.Prelude.{◌≡◌, ◌≤◌, ◌^◌, All, IfOk, length};
 ghost use Rattle.mutual_merge.specs.Linked.{AreLinked, IsLink};
-ghost use Rattle.mutual_merge.specs.Trimmed.{AreKept, AreTrimmed, kept_links};
+ghost use Rattle.mutual_merge.specs.Trimmed.{AreKept, AreTrimmed, IsPart, kept_links};
 
 use crate::links::Link;
 use crate::merging::LinkedGraph;
@@ -30,8 +30,19 @@ pub fn trim(
         trimmed.regions.items trimmed.links.items) }
 {
     let kept = choose(alloc, &graph.regions, &graph.links, threshold, frozen)?;
-    let left = keep(alloc, &graph.regions, &kept)?;
-    let links = links_among(alloc, &graph.links, &kept, &left.places)?;
+    let part = part_of(alloc, graph, &kept)?;
+    Ok(part)
+}
+
+/// The regions of which `kept` says so, and the links among them.
+pub fn part_of(alloc: Global, graph: &LinkedGraph, kept: &[bool]) -> Result<LinkedGraph, Memory>
+    requires linked { AreLinked graph.now.regions.items graph.now.links.items }
+    requires one_each { length kept.now ≡ length graph.now.regions.items }
+    ensures { IfOk result (λ part. IsPart graph.now.regions.items graph.now.links.items kept.now
+        part.regions.items part.links.items) }
+{
+    let left = keep(alloc, &graph.regions, kept)?;
+    let links = links_among(alloc, &graph.links, kept, &left.places)?;
     Ok(LinkedGraph {
         regions: left.regions,
         links,

@@ -7,13 +7,13 @@ use Rattle.mutual_merge.specs.Rounds.{Carries}
 use Rattle.mutual_merge.proofs.PairRounds.{linked_graph}
 use Rattle.mutual_merge.proofs.TrimmedGraphs.{carries_end, carries_trimmed}
 use Rattle.mutual_merge.proofs.MergedInto.{carries_on}
-use Rattle.mutual_merge.proofs.settling.settle.Goals as goal
+use Rattle.mutual_merge.proofs.settling.settle_linked.Goals as goal
 
 pub returns-clause-settles : goal.returns-clause-settles
 returns-clause-settles c =
     let t = c.args.threshold.now in
     let faces = c.args.frozen in
-    let start : RegionGraph = graph_of c.in_ok-start.start.regions.items c.in_ok-start.start.links.items in
+    let start : RegionGraph = graph_of c.args.start.regions.items c.args.start.links.items in
     let trimmed : RegionGraph = graph_of c.in_ok-trimmed.trimmed.regions.items c.in_ok-trimmed.trimmed.links.items in
     let chained = c.in_ok-graph.field-0.graph in
     let middle : RegionGraph = graph_of chained.regions.items chained.links.items in
@@ -21,7 +21,7 @@ returns-clause-settles c =
     let last : RegionGraph = graph_of swept.graph.regions.items swept.graph.links.items in
     let merges : List Merge = c.in_ok-graph.field-0.merges.items in
     let from_start : Carries t faces start [] trimmed =
-    carries_trimmed t faces start start trimmed [] (linked_graph c.in_ok-start.start.regions.items c.in_ok-start.start.links.items c.in_ok-start.ensures.linked)
+    carries_trimmed t faces start start trimmed [] (linked_graph c.args.start.regions.items c.args.start.links.items c.requires)
     c.in_ok-trimmed.ensures.left_is (λ more left settles. settles) in
     let along : Carries t faces trimmed merges middle = c.in_ok-graph.ensures.carries in
     let all : Carries t faces start (merges ++ swept.merges.items) last =
@@ -29,6 +29,5 @@ returns-clause-settles c =
     (carries_on t faces trimmed middle last merges swept.merges.items along c.in_ok-swept.ensures.merged.carries) in
     let noted : merges ++ swept.merges.items ≡ c.extend_from_slice.new.self.items =
     ap (λ ms. merges ++ ms) (sym c.deref.ensures.value) ∙ sym c.in_ok-extend_from_slice.ensures.items in
-    subst (λ g. Settles t faces g c.extend_from_slice.new.self.items c.in_ok-residue.residue) c.in_ok-start.ensures.same
-    (subst (λ ms. Settles t faces start ms c.in_ok-residue.residue) noted
-    (carries_end t faces start last c.in_ok-residue.residue (merges ++ swept.merges.items) all c.in_ok-swept.ensures.settled c.in_ok-residue.ensures.left))
+    subst (λ ms. Settles t faces start ms c.in_ok-residue.residue) noted
+    (carries_end t faces start last c.in_ok-residue.residue (merges ++ swept.merges.items) all c.in_ok-swept.ensures.settled c.in_ok-residue.ensures.left)
