@@ -19,6 +19,7 @@ pub mod ReachingEdges
 pub mod ClosedParts
 pub mod TrimmedGraphs
 pub mod PartsSettled
+pub mod JoinedLists
 pub mod MadeRegions
 pub mod ClosedGraph
 pub mod LinkedStands

@@ -1,5 +1,5 @@
 -- Parts of a graph that are settled one by one: no edge that reaches the threshold leads from one to another.
-use Rattle.std.specs.Prelude.{◌≡◌, ℕ, ◌<◌, ◌↔◌, List, [], All, AllPairs, Contains, length, slice_index}
+use Rattle.std.specs.Prelude.{◌≡◌, ℕ, ◌<◌, ◌↔◌, List, [], All, AllPairs, Contains, Ok, Result, Vec, flat_map, length, map, slice_index}
 use Rattle.agglo_model.specs.PairOrder.{Threshold, Reaches}
 use Rattle.agglo_model.specs.Greedy.{Merge}
 use Rattle.agglo_model.specs.RegionGraph.{Region, GraphEdge, RegionGraph, IsGraph, HasRegion}
@@ -52,3 +52,7 @@ pub record IsGroup (t : Threshold) (regions : List Region) (links : List Link) (
 -- the merges settle the part of a group
 abbrev pub SettlesGroup : Threshold → List Region → List Link → List ℕ → ℕ → List Merge → Type 0
 SettlesGroup t regions links groups group merges = (part : RegionGraph) × IsGroup t regions links groups group part × SettlesFree t part merges
+
+-- the merges of all these lists, if all of them are there
+abbrev pub AreListsJoined : {E A : Type 0} → List (Result (Vec Merge A) E) → List Merge → Type 0
+AreListsJoined {E} {A} lists merges = (there : List (Vec Merge A)) × (lists ≡ map Ok there) × (merges ≡ flat_map (λ list. list.items) there)

@@ -8,6 +8,7 @@
 mod chains;
 mod closing;
 mod firsts;
+mod free_settling;
 mod group_parts;
 mod groups;
 mod hubs;
@@ -21,4 +22,5 @@ mod slot_links;
 mod slots;
 mod trimming;
 
+pub use free_settling::settle_free;
 pub use settling::{Settled, settle};

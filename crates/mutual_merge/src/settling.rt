@@ -72,7 +72,7 @@ pub fn settle_linked(
 }
 
 /// The graph with links in the place of its edges, which are given up.
-fn linked(alloc: Global, graph: Graph) -> Result<LinkedGraph, Memory>
+pub fn linked(alloc: Global, graph: Graph) -> Result<LinkedGraph, Memory>
     ensures linked { IfOk result (λ start. AreLinked start.regions.items start.links.items) }
     ensures same { IfOk result (λ start. graph_of start.regions.items start.links.items ≡ graph) }
 {
