@@ -12,7 +12,7 @@ use Rattle.agglo_model.proofs.Members.{contains_head, contains_tail, Contains-un
 use Rattle.agglo_model.proofs.Cases.{below_next}
 use Rattle.mutual_merge.specs.declared.links.Link.{Link}
 use Rattle.mutual_merge.specs.Linked.{AreLinked, IsLink, region_at, name_at, edge_by, edges_by, graph_of}
-use Rattle.mutual_merge.specs.Left.{AreLeft, is_kept, edges_left, regions_left}
+use Rattle.mutual_merge.specs.Left.{AreLeft, is_kept, edges_left}
 use Rattle.mutual_merge.specs.Trimmed.{AreKept, AreTrimmed, IsPart, kept_graph, kept_links, link_at}
 use Rattle.mutual_merge.proofs.KeptRegions.{kept_upto-take, kept_upto-skip}
 use Rattle.mutual_merge.proofs.LeftGraphs.{edges_left-fewer, IsGraph-left, IsWithinEdges-left, IsLeftOf-left}

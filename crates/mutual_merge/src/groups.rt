@@ -1,6 +1,6 @@
 ghost use Rattle.std.specs.Prelude.{◌≡◌, ◌<◌, ◌≤◌, ◌^◌, All, IfOk, IsTrue, length};
-ghost use Rattle.mutual_merge.specs.Linked.{AreLinked, IsLink};
 ghost use Rattle.mutual_merge.specs.Groups.{AreParents};
+ghost use Rattle.mutual_merge.specs.Linked.{AreLinked, IsLink};
 ghost use Rattle.mutual_merge.specs.Parts.{AreGroups, AreTogether};
 
 use crate::links::Link;
@@ -13,9 +13,9 @@ use std::alloc::Global;
 /// Groups of regions, so that no link that reaches the threshold joins two groups: the connected parts of the graph of
 /// those links, shared out over `count` groups in the order of their first regions, so that each has about as many links.
 ///
-/// The parts are found by union-find with path halving, after Tarjan, Efficiency of a good but not linear set union
-/// algorithm (1975). That they are apart does not rest on it: the groups are looked over, and all regions are of one
-/// group where they are not.
+/// The parts are found by union-find (Tarjan, Efficiency of a good but not linear set union algorithm, 1975) with path
+/// halving. What is told of the groups does not rest on that: they are looked over, and all regions would be of one group
+/// if a link led from one to another.
 pub fn group_regions(
     alloc: Global,
     graph: &LinkedGraph,
@@ -36,7 +36,7 @@ pub fn group_regions(
 }
 
 /// For each of so many places the first one of its connected part.
-#[tactic(auto, using(crate::proofs::ParentPlaces::parents_set, crate::proofs::ParentPlaces::parents_start))]
+#[tactic(auto, using(crate::proofs::ParentPlaces::parents_set))]
 fn find_roots(
     alloc: Global,
     links: &[Link],
@@ -77,8 +77,9 @@ fn join_ends(
     Ok(parents)
 }
 
-/// The root of the tree of a place. Each second place on the way comes to stand below its parent's parent.
-#[tactic(auto, using(crate::proofs::ParentPlaces::parents_set, crate::proofs::ParentPlaces::parents_start))]
+/// The root of the tree of a place. Each second place on the way comes to stand below its parent's parent, so that the
+/// next way is half as long.
+#[tactic(auto, using(crate::proofs::ParentPlaces::parents_set))]
 fn root_of(parents: &mut [u32], place: u32) -> u32
     requires parents { AreParents (length parents.old) parents.old }
     requires inside { place < length parents.old }

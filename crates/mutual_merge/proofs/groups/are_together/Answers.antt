@@ -1,9 +1,8 @@
-use Rattle.std.proofs.Common.{List, ℕ, take, subst}
+use Rattle.std.proofs.Common.{List, ℕ, subst}
 use Rattle.std.specs.Prelude.{All}
 use Rattle.std.proofs.lemmas.List.{take_all}
 use Rattle.std.proofs.lemmas.List.Elements.{All-more}
 use Rattle.agglo_model.specs.PairOrder.{Threshold}
-use Rattle.mutual_merge.specs.declared.links.Link.{Link}
 use Rattle.mutual_merge.specs.Parts.{AreTogether}
 use Rattle.mutual_merge.proofs.groups.are_together.Goals as goal
 

@@ -2,9 +2,9 @@ use Rattle.std.proofs.Common.{◌≡◌, ◌∙◌, List, Bool, sym, ap, subst, 
 use Rattle.std.specs.Prelude.{sum_by}
 use Rattle.agglo_model.specs.RegionGraph.{Region, GraphEdge, RegionGraph, IsGraph, IsWithinEdges}
 use Rattle.agglo_model.specs.Settling.{IsLeftOf}
-use Rattle.mutual_merge.specs.declared.links.Link.{Link}
 use Rattle.mutual_merge.specs.Linked.{graph_of}
 use Rattle.mutual_merge.specs.Left.{AreLeft, edges_left, regions_left}
+use Rattle.mutual_merge.specs.Trimmed.{kept_graph}
 use Rattle.mutual_merge.proofs.LeftGraphs.{edges_left-fewer, IsGraph-left, IsWithinEdges-left, IsLeftOf-left}
 use Rattle.mutual_merge.proofs.residue.leave.Goals as goal
 use Rattle.mutual_merge.proofs.residue.leave.Goals.{In_ok-regions}
@@ -14,10 +14,6 @@ are_left c =
     subst (λ rs. AreLeft c.args.threshold.now c.args.frozen rs c.args.settled.links.items c.in_ok-kept.kept.items) c.deref.ensures.value
     (subst (λ ls. AreLeft c.args.threshold.now c.args.frozen c.deref.result.now ls c.in_ok-kept.kept.items) c.deref-2.ensures.value
     c.in_ok-kept.ensures)
-
--- the graph of the regions that are kept
-abbrev kept_graph : List Region → List Link → List Bool → RegionGraph
-kept_graph regions links kept = record { regions = regions_left regions kept; edges = edges_left regions links kept }
 
 abbrev graph_made : List Region → List GraphEdge → RegionGraph
 graph_made regions edges = record { regions = regions; edges = edges }
