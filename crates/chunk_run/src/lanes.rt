@@ -1,4 +1,4 @@
-ghost use Rattle.std.specs.Prelude.{◌≡◌, All, IfOk, IsPermutation, length};
+ghost use Rattle.std.specs.Prelude.{◌≡◌, ◌<◌, All, IfOk, IsPermutation, length};
 ghost use Rattle.std.specs.List.{AllZip};
 ghost use Rattle.chunk_run.specs.Lanes.{AreAscending, ArePartsDone, IsDone, IsReady, jobs_in};
 
@@ -40,29 +40,35 @@ pub(crate) fn work_lanes<R: Threads + Sync, G: Gate>(
     site: &Site<'_>,
     gate: &G,
     lanes: Vec<Lane>,
+    workers: u32,
 ) -> Result<Vec<Worked>, Memory>
-    requires { All (λ lane. All (IsReady site.now) lane.jobs.items) lanes.items }
+    requires workers { 0 < workers }
+    requires ready { All (λ lane. All (IsReady site.now) lane.jobs.items) lanes.items }
     ensures { IfOk result (λ done. AllZip (IsDone site.now) (jobs_in lanes.items) done.items) }
 {
     let parts = thread::map_vec(
         rt,
         lanes,
         &|lane: Lane| -> Result<Vec<Worked>, Memory>
-            requires { All (IsReady site.now) lane.jobs.items }
+            requires workers { 0 < workers }
+            requires ready { All (IsReady site.now) lane.jobs.items }
             ensures { IfOk result (λ done. AllZip (IsDone site.entry.now) lane.jobs.items done.items) }
-        { work_lane(alloc, site, gate, lane) },
+        { work_lane(rt, alloc, site, gate, lane, workers) },
     )?;
     collect(alloc, parts)
 }
 
 /// Works the nodes of a lane in order.
-fn work_lane<G: Gate>(
+fn work_lane<R: Threads + Sync, G: Gate>(
+    rt: &R,
     alloc: Global,
     site: &Site<'_>,
     gate: &G,
     lane: Lane,
+    workers: u32,
 ) -> Result<Vec<Worked>, Memory>
-    requires { All (IsReady site.now) lane.jobs.items }
+    requires workers { 0 < workers }
+    requires ready { All (IsReady site.now) lane.jobs.items }
     ensures { IfOk result (λ done. AllZip (IsDone site.now) lane.jobs.items done.items) }
 {
     let number = lane.number;
@@ -70,7 +76,7 @@ fn work_lane<G: Gate>(
     for job in lane.jobs {
         let node = job.node;
         gate.pass(number, node);
-        let settled = work_node(alloc, site, node, job.kids)?;
+        let settled = work_node(rt, alloc, site, node, job.kids, workers)?;
         done.push(Worked { node, settled })?;
     }
     Ok(done)

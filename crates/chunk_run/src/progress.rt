@@ -68,7 +68,7 @@ impl Progress {
             self.new.waiting.items self.new.merges.items self.new.worked.items self.new.levels.items) }
     {
         let lanes = hand_out(alloc, site, first, end, workers, &mut self.waiting)?;
-        let done = in_node_order(work_lanes(rt, alloc, site, gate, lanes)?);
+        let done = in_node_order(work_lanes(rt, alloc, site, gate, lanes, workers)?);
         self.take_in(site, first, done)
     }
 

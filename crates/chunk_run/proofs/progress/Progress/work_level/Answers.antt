@@ -6,8 +6,8 @@ use Rattle.chunk_run.proofs.Handed.{all_ready, all_turns, as_many, each_lane}
 use Rattle.chunk_run.proofs.Steps.{all_written}
 use Rattle.chunk_run.proofs.progress.Progress.work_level.Goals as goal
 
-pub work_lanes-requires-after_bounds : goal.work_lanes-requires-after_bounds
-work_lanes-requires-after_bounds g c κs within =
+pub work_lanes-requires-clause-ready : goal.work_lanes-requires-clause-ready
+work_lanes-requires-clause-ready g c κs within =
     let s = c.args.site.now in
     let run = c.args.self.now in
     let jobs = jobs_in c.in_ok-lanes.lanes.items in
