@@ -57,32 +57,33 @@ pub fn agglo<R: Threads + Sync, D: Desk, G: Gate>(
     // Every refusal has its cause, and its line was printed. Want of memory is free, but not for words that are
     // refused at once: there is none, or the first is no command, or another is bare.
     ensures refused { result ≢ 0 → Refuses (texts words.now) result (D.state desk.old) (D.state desk.new) }
-    ensures kinds { (task : Task) → Spells (texts words.now) task → MayEndWith task result }
-    ensures no_settings { result ≡ 2 → AreNoSettings (texts words.now) }
-    ensures words { AreNoSettings (texts words.now)
+    ensures statuses_of_command { (task : Task) → Spells (texts words.now) task → MayEndWith task result }
+    ensures refused_words_are_no_settings { result ≡ 2 → AreNoSettings (texts words.now) }
+    ensures no_settings_are_refused { AreNoSettings (texts words.now)
         → (result ≡ 2) ⊎ ((result ≡ 1) × MayBeSettings (texts words.now)) }
-    ensures at_once { ¬ (MayBeSettings (texts words.now)) → result ≡ 2 }
-    ensures input { result ≡ 5
+    ensures words_are_refused_at_once { ¬ (MayBeSettings (texts words.now)) → result ≡ 2 }
+    ensures input_fault_was_counted { result ≡ 5
         → Rose (D.state desk.old).input_faults (D.state desk.new).input_faults }
-    ensures output { result ≡ 6
+    ensures output_fault_was_counted { result ≡ 6
         → Rose (D.state desk.old).output_faults (D.state desk.new).output_faults }
 
     // A flaw that is told, of a file by the desk and of leaves by the words, is found, but for want of memory and, in
     // a file, faults of the input.
-    ensures exactly { (status : ℕ) → (named : NamesAFlawedInput (texts words.now) status (D.state desk.old))
+    ensures flaws_are_found { (status : ℕ) → (named : NamesAFlawedInput (texts words.now) status (D.state desk.old))
         → (result ≡ status) ⊎ MayHideFlaw named.task result }
 
     // With settings, an input that has no flaw, and no fault, only want of memory can come.
-    ensures complete { NamesAGoodInput (texts words.now) (D.state desk.old)
+    ensures good_input_is_done { NamesAGoodInput (texts words.now) (D.state desk.old)
         → ¬ (Rose (D.state desk.old).input_faults (D.state desk.new).input_faults)
         → ¬ (Rose (D.state desk.old).output_faults (D.state desk.new).output_faults)
         → (result ≡ 0) ⊎ (result ≡ 1) }
 
     // No port is opened or written before the answer is known, but for the line of a refusal.
-    ensures quiet { result ≢ 0 → result ≢ 6 → WritesNothing (D.state desk.old) (D.state desk.new) }
+    ensures nothing_is_written_early { result ≢ 0 → result ≢ 6 → WritesNothing (D.state desk.old) (D.state desk.new) }
 
     // A miss comes only where the words are settings, and no file has the name of their input.
-    ensures misses { ((task : Task) → Spells (texts words.now) task → HasInput (D.state desk.old) task)
+    ensures only_the_input_is_missed { ((task : Task) → Spells (texts words.now) task
+        → HasInput (D.state desk.old) task)
         → IfSome (D.state desk.old).files (λ _. (D.state desk.new).misses ≡ (D.state desk.old).misses) }
 {
     one_task();
