@@ -9,7 +9,7 @@ use Rattle.refusals.specs.declared.refusal.Refusal.{Refusal}
 use Rattle.refusals.specs.declared.refusal.Refusal.TheVariants.{Memory, Words, Volume, Leaves, Input, Output, Tree}
 use Rattle.refusals.specs.Refusal.{status_of}
 use Rattle.agglo_program.specs.Answers.{Finds}
-use Rattle.agglo_program.specs.Flaws.{basins_refusal, segment_refusal, show_refusal, basins_judged, segment_judged, show_judged, RefusesInput, RefusesNumbers, RefusesStart, IsJudged, HasInput, MayHideFlaw}
+use Rattle.agglo_program.specs.Flaws.{RefusesInput, RefusesNumbers, Start, FromFile, FromNumbers, start_of, RefusesFrom, RefusesStart, IsJudged, HasStart, HasInput, MayHideFlaw}
 use Rattle.agglo_program.specs.Headline.{IsAgglomerated, IsMade, IsTried}
 use Rattle.agglo_program.specs.Reading.{OnlyInputChanges, HasFile}
 use Rattle.agglo_program.specs.Run.{FinishesTask, RefusesTask, StopsTask, RefusesRun, Told, Finishes, NamesAFlawedInput, NamesAGoodInput, WritesNothing}
@@ -216,12 +216,12 @@ exactly_judged (Tree fault) words s t one f status n = inl (flaw_judged (Tree fa
 
 -- ---- faults
 
+fault_of_start : (start : Start) (s t : DeskState) → RefusesFrom start Input s t → Rose s.input_faults t.input_faults
+fault_of_start (FromFile statuses refusal_of judged name) s t f = failed_fault judged name s t f
+fault_of_start (FromNumbers statuses cause) s t f = absurd f
+
 fault_of_input : (task : Task) (s t : DeskState) → RefusesStart task Input s t → Rose s.input_faults t.input_faults
-fault_of_input (Basins settings) s t f = failed_fault _ _ s t f
-fault_of_input (Segment settings) s t f = failed_fault _ _ s t f
-fault_of_input (Make settings) s t f = absurd f
-fault_of_input (Trial settings) s t f = absurd f
-fault_of_input (Show tree) s t f = failed_fault _ _ s t f
+fault_of_input task s t f = fault_of_start (start_of task) s t f
 
 input_rose : (words : List (List ℕ)) (s m t : DeskState) → RefusesRun words Input s m → Told Input m t
     → Rose s.input_faults t.input_faults
@@ -314,12 +314,12 @@ numbers_same cause Input s t f = absurd f
 numbers_same cause Output s t f = absurd f
 numbers_same cause (Tree fault) s t f = absurd f
 
+alone_from : (start : Start) (refusal : Refusal) (s t : DeskState) → RefusesFrom start refusal s t → OnlyInputChanges s t
+alone_from (FromFile statuses refusal_of judged name) refusal s t f = file_alone refusal_of judged name refusal s t f
+alone_from (FromNumbers statuses cause) refusal s t f = nothing_alone s t (numbers_same cause refusal s t f)
+
 start_alone : (task : Task) (refusal : Refusal) (s t : DeskState) → RefusesStart task refusal s t → OnlyInputChanges s t
-start_alone (Basins settings) refusal s t f = file_alone basins_refusal basins_judged _ refusal s t f
-start_alone (Segment settings) refusal s t f = file_alone (segment_refusal settings.chunk) (segment_judged settings.chunk) _ refusal s t f
-start_alone (Make settings) refusal s t f = nothing_alone s t (numbers_same _ refusal s t f)
-start_alone (Trial settings) refusal s t f = nothing_alone s t (numbers_same _ refusal s t f)
-start_alone (Show tree) refusal s t f = file_alone show_refusal show_judged _ refusal s t f
+start_alone task refusal s t f = alone_from (start_of task) refusal s t f
 
 run_alone : (refusal : Refusal) (words : List (List ℕ)) (s t : DeskState) → RefusesRun words refusal s t → status_of refusal ≢ 6
     → OnlyInputChanges s t
@@ -387,12 +387,13 @@ file_misses refusal_of judged name (Tree fault) s t f has = everywhere s.files _
 numbers_misses : (cause : Option Refusal) (refusal : Refusal) (s t : DeskState) → RefusesNumbers cause refusal s t → Misses_stay s t
 numbers_misses cause refusal s t f = everywhere s.files _ (ap (λ (z : DeskState). z.misses) (numbers_same cause refusal s t f))
 
+misses_from : (start : Start) (refusal : Refusal) (s t : DeskState) → RefusesFrom start refusal s t → HasStart s start
+    → Misses_stay s t
+misses_from (FromFile statuses refusal_of judged name) refusal s t f has = file_misses refusal_of judged name refusal s t f has
+misses_from (FromNumbers statuses cause) refusal s t f has = numbers_misses cause refusal s t f
+
 start_misses : (task : Task) (refusal : Refusal) (s t : DeskState) → RefusesStart task refusal s t → HasInput s task → Misses_stay s t
-start_misses (Basins settings) refusal s t f has = file_misses basins_refusal basins_judged settings.volume refusal s t f has
-start_misses (Segment settings) refusal s t f has = file_misses (segment_refusal settings.chunk) (segment_judged settings.chunk) settings.volume refusal s t f has
-start_misses (Make settings) refusal s t f has = numbers_misses _ refusal s t f
-start_misses (Trial settings) refusal s t f has = numbers_misses _ refusal s t f
-start_misses (Show tree) refusal s t f has = file_misses show_refusal show_judged tree refusal s t f has
+start_misses task refusal s t f has = misses_from (start_of task) refusal s t f has
 
 run_misses : (refusal : Refusal) (words : List (List ℕ)) (s t : DeskState) → RefusesRun words refusal s t
     → ((task : Task) → Spells words task → HasInput s task) → Misses_stay s t

@@ -10,7 +10,7 @@ use Rattle.seg_io.specs.Desk.{DeskState}
 use Rattle.refusals.specs.declared.refusal.Refusal.{Refusal}
 use Rattle.refusals.specs.declared.refusal.Refusal.TheVariants.{Memory, Words, Volume, Leaves, Input, Output, Tree}
 use Rattle.agglo_program.specs.Answers.{IsVolumeFile, IsTreeFile, ReadsCutVolume, Finds}
-use Rattle.agglo_program.specs.Flaws.{volume_flaw_refusal, tree_flaw_refusal, leaves_refusal, basins_refusal, segment_refusal, show_refusal, basins_judged, segment_judged, show_judged, RefusesInput, RefusesNumbers, RefusesStart, IsJudgedFile, IsJudged, MayHideFlaw}
+use Rattle.agglo_program.specs.Flaws.{volume_flaw_refusal, tree_flaw_refusal, leaves_refusal, basins_refusal, segment_refusal, show_refusal, RefusesInput, RefusesNumbers, Start, FromFile, FromNumbers, start_of, RefusesFrom, RefusesStart, IsJudgedFile, IsJudgedFrom, IsJudged, MayHideFlawFrom, MayHideFlaw}
 use Rattle.agglo_program.specs.Reading.{file_of}
 use Rattle.agglo_program.specs.Writing.{Answer}
 use Rattle.agglo_program.proofs.ReadFile.{if_some}
@@ -81,26 +81,28 @@ of_numbers told cause Input s t flaw f j = absurd flaw
 of_numbers told cause Output s t flaw f j = absurd flaw
 of_numbers told cause (Tree fault) s t flaw f j = absurd f
 
+one_cause_from : (start : Start) (refusal : Refusal) (cause : Option Refusal) (s t : DeskState) → TellsFlaw refusal
+    → RefusesFrom start refusal s t → IsJudgedFrom start cause s → cause ≡ Some refusal
+one_cause_from (FromFile statuses refusal_of judged name) refusal cause s t flaw f j =
+    of_file refusal_of judged name refusal cause s t flaw f j
+one_cause_from (FromNumbers statuses told) refusal cause s t flaw f j = of_numbers told cause refusal s t flaw f j
+
 pub one_cause : (task : Task) (refusal : Refusal) (cause : Option Refusal) (s t : DeskState) → TellsFlaw refusal
     → RefusesStart task refusal s t → IsJudged task cause s → cause ≡ Some refusal
-one_cause (Basins settings) refusal cause s t flaw f j = of_file basins_refusal basins_judged settings.volume refusal cause s t flaw f j
-one_cause (Segment settings) refusal cause s t flaw f j = of_file (segment_refusal settings.chunk) (segment_judged settings.chunk) settings.volume refusal cause s t flaw f j
-one_cause (Make settings) refusal cause s t flaw f j = of_numbers None cause refusal s t flaw f j
-one_cause (Trial settings) refusal cause s t flaw f j = of_numbers (leaves_refusal settings.axes settings.chunk) cause refusal s t flaw f j
-one_cause (Show tree) refusal cause s t flaw f j = of_file show_refusal show_judged tree refusal cause s t flaw f j
+one_cause task refusal cause s t flaw f j = one_cause_from (start_of task) refusal cause s t flaw f j
 
 -- ---- what may come in the place of a flaw
 
+memory_from : (start : Start) → MayHideFlawFrom start 1
+memory_from (FromFile statuses refusal_of judged name) = inl refl
+memory_from (FromNumbers statuses cause) = refl
+
 pub memory_first : (task : Task) → MayHideFlaw task 1
-memory_first (Basins settings) = inl refl
-memory_first (Segment settings) = inl refl
-memory_first (Make settings) = refl
-memory_first (Trial settings) = refl
-memory_first (Show tree) = inl refl
+memory_first task = memory_from (start_of task)
+
+fault_from : (start : Start) (s t : DeskState) → RefusesFrom start Input s t → MayHideFlawFrom start 5
+fault_from (FromFile statuses refusal_of judged name) s t f = inr refl
+fault_from (FromNumbers statuses cause) s t f = absurd f
 
 pub fault_first : (task : Task) (s t : DeskState) → RefusesStart task Input s t → MayHideFlaw task 5
-fault_first (Basins settings) s t f = inr refl
-fault_first (Segment settings) s t f = inr refl
-fault_first (Make settings) s t f = absurd f
-fault_first (Trial settings) s t f = absurd f
-fault_first (Show tree) s t f = inr refl
+fault_first task s t f = fault_from (start_of task) s t f

@@ -5,7 +5,7 @@ use Rattle.agglo_model.specs.Count.{Rose}
 use Rattle.seg_io.specs.declared.port.Port.{Port}
 use Rattle.seg_io.specs.declared.port.Port.TheVariants.{Labels, Tree, Volume, Note, Trouble}
 use Rattle.seg_io.specs.Desk.{DeskState, Opened, IsListed, CanOpen, appended, with_faults, OpensOutput, FailsAfterWriting}
-use Rattle.agglo_program.specs.Writing.{Output, WritesFile, CutsFile, WritesFiles, FailsInFile, FailsInFiles}
+use Rattle.agglo_program.specs.Writing.{Output, WritesFile, CutsFile, WritesFiles, FailsInFile, FailsInFiles, WriteFilesEnds}
 
 -- ---- ports that are opened
 
@@ -34,23 +34,23 @@ tree_is_open name s t o = subst (IsListed Tree) (sym (ap (λ (z : DeskState). z.
 pub volume_is_open : (name : List ℕ) (s t : DeskState) → OpensOutput Volume name s t → IsListed Volume t.opened
 volume_is_open name s t o = subst (IsListed Volume) (sym (ap (λ (z : DeskState). z.opened) o.after)) (listed_last Volume s.opened name)
 
--- the label file
-abbrev labels_output : List ℕ → List ℕ → Output
-labels_output name bytes = record { port = Labels; name = name; bytes = bytes }
+-- a file on a port
+abbrev on_labels : List ℕ → List ℕ → Output
+on_labels name bytes = record { port = Labels; name = name; bytes = bytes }
 
-abbrev tree_output : List ℕ → List ℕ → Output
-tree_output name bytes = record { port = Tree; name = name; bytes = bytes }
+abbrev on_tree : List ℕ → List ℕ → Output
+on_tree name bytes = record { port = Tree; name = name; bytes = bytes }
 
-pub opened_by_labels : (name bytes : List ℕ) (s t : DeskState) → WritesFile (labels_output name bytes) s t
+pub opened_by_labels : (name bytes : List ℕ) (s t : DeskState) → WritesFile (on_labels name bytes) s t
     → t.opened ≡ s.opened ++ record { port = Labels; name = name } ∷ []
 opened_by_labels name bytes s t w = ap (λ (z : DeskState). z.opened) w.wrote ∙ ap (λ (z : DeskState). z.opened) w.opened.after
 
-pub opened_by_tree : (name bytes : List ℕ) (s t : DeskState) → WritesFile (tree_output name bytes) s t
+pub opened_by_tree : (name bytes : List ℕ) (s t : DeskState) → WritesFile (on_tree name bytes) s t
     → t.opened ≡ s.opened ++ record { port = Tree; name = name } ∷ []
 opened_by_tree name bytes s t w = ap (λ (z : DeskState). z.opened) w.wrote ∙ ap (λ (z : DeskState). z.opened) w.opened.after
 
 -- the port Tree can be opened still when the label file was written
-pub tree_can_open : (name bytes : List ℕ) (s t : DeskState) → CanOpen Tree s → WritesFile (labels_output name bytes) s t → CanOpen Tree t
+pub tree_can_open : (name bytes : List ℕ) (s t : DeskState) → CanOpen Tree s → WritesFile (on_labels name bytes) s t → CanOpen Tree t
 tree_can_open name bytes s t can w listed = can (listed_before Tree Labels name s.opened labels_no_tree
     (subst (IsListed Tree) (opened_by_labels name bytes s t w) listed))
 
@@ -199,19 +199,19 @@ pub record HoldsTwo (labels_name tree_name labels tree : List ℕ) (s t : DeskSt
   pub tree_is : IfSome t.tree (λ bytes. bytes ≡ tree)
   pub opened : t.opened ≡ s.opened ++ record { port = Labels; name = labels_name } ∷ record { port = Tree; name = tree_name } ∷ []
 
-labels_hold : (name bytes : List ℕ) (s t : DeskState) → WritesFile (labels_output name bytes) s t → IfSome t.labels (λ b. b ≡ bytes)
+labels_hold : (name bytes : List ℕ) (s t : DeskState) → WritesFile (on_labels name bytes) s t → IfSome t.labels (λ b. b ≡ bytes)
 labels_hold name bytes s t w = subst (λ (o : Option (List ℕ)). IfSome o (λ b. b ≡ bytes)) (sym (ap (λ (z : DeskState). z.labels) w.wrote))
     (only_these w.begun.labels bytes w.opened.empty)
 
-tree_holds : (name bytes : List ℕ) (s t : DeskState) → WritesFile (tree_output name bytes) s t → IfSome t.tree (λ b. b ≡ bytes)
+tree_holds : (name bytes : List ℕ) (s t : DeskState) → WritesFile (on_tree name bytes) s t → IfSome t.tree (λ b. b ≡ bytes)
 tree_holds name bytes s t w = subst (λ (o : Option (List ℕ)). IfSome o (λ b. b ≡ bytes)) (sym (ap (λ (z : DeskState). z.tree) w.wrote))
     (only_these w.begun.tree bytes w.opened.empty)
 
-labels_stay : (name bytes : List ℕ) (s t : DeskState) → WritesFile (tree_output name bytes) s t → t.labels ≡ s.labels
+labels_stay : (name bytes : List ℕ) (s t : DeskState) → WritesFile (on_tree name bytes) s t → t.labels ≡ s.labels
 labels_stay name bytes s t w = ap (λ (z : DeskState). z.labels) w.wrote ∙ ap (λ (z : DeskState). z.labels) w.opened.after
 
 pub holds_two : (labels_name tree_name labels tree note : List ℕ) (s t : DeskState)
-    → WritesFiles (labels_output labels_name labels ∷ tree_output tree_name tree ∷ []) note s t
+    → WritesFiles (on_labels labels_name labels ∷ on_tree tree_name tree ∷ []) note s t
     → HoldsTwo labels_name tree_name labels tree s t
 holds_two labels_name tree_name labels tree note s t (m, first, (n, second, e)) = record {
   labels_are = subst (λ (o : Option (List ℕ)). IfSome o (λ b. b ≡ labels))
@@ -225,15 +225,15 @@ holds_two labels_name tree_name labels tree note s t (m, first, (n, second, e)) 
 
 -- ---- what a generated volume leaves
 
-abbrev volume_output : List ℕ → List ℕ → Output
-volume_output name bytes = record { port = Volume; name = name; bytes = bytes }
+abbrev on_volume : List ℕ → List ℕ → Output
+on_volume name bytes = record { port = Volume; name = name; bytes = bytes }
 
 pub record HoldsVolume (name bytes note : List ℕ) (s t : DeskState) : Type 0 where
   pub volume_is : IfSome t.volume (λ written. written ≡ bytes)
   pub note_is : t.note ≡ option_map (λ written. written ++ note) s.note
   pub opened : t.opened ≡ s.opened ++ record { port = Volume; name = name } ∷ []
 
-pub holds_volume : (name bytes note : List ℕ) (s t : DeskState) → WritesFiles (volume_output name bytes ∷ []) note s t
+pub holds_volume : (name bytes note : List ℕ) (s t : DeskState) → WritesFiles (on_volume name bytes ∷ []) note s t
     → HoldsVolume name bytes note s t
 holds_volume name bytes note s t (m, w, e) = record {
   volume_is = subst (λ (o : Option (List ℕ)). IfSome o (λ b. b ≡ bytes))
@@ -249,7 +249,7 @@ holds_volume name bytes note s t (m, w, e) = record {
 pub two_files_outcome : {X E : Type 0} (result : Result X E) (first second : Output) (note note' : List ℕ) (s m n u : DeskState)
     → note' ≡ note → WritesFile first s m → WritesFile second m n
     → MatchResult result (λ _. u ≡ appended Note note' n) (λ _. FailsAfterWriting Note note' n u)
-    → MatchResult result (λ _. WritesFiles (first ∷ second ∷ []) note s u) (λ _. FailsInFiles (first ∷ second ∷ []) note s u)
+    → WriteFilesEnds (first ∷ second ∷ []) note result s u
 two_files_outcome (Ok x) first second note note' s m n u same w v e = (m, w, (n, v, e ∙ ap (λ b. appended Note b n) same))
 two_files_outcome (Err x) first second note note' s m n u same w v f =
     inr (m, w, inr (n, v, subst (λ b. FailsAfterWriting Note b n u) same f))

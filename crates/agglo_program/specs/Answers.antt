@@ -6,19 +6,16 @@ use Rattle.agglo_model.specs.Basins.{AreBasins}
 use Rattle.agglo_model.specs.Cutting.{Chunking, chunking}
 use Rattle.agglo_model.specs.Generated.{generated_volume}
 use Rattle.agglo_model.specs.Greedy.{Merge}
-use Rattle.agglo_model.specs.LabelFile.{label_file}
-use Rattle.agglo_model.specs.MergeTree.{tree_file}
 use Rattle.agglo_model.specs.Note.{basins_note, make_note}
 use Rattle.agglo_model.specs.Report.{Level, report}
 use Rattle.agglo_model.specs.Segmentation.{IsSegmentation}
 use Rattle.agglo_model.specs.TreeFile.{MergeTree, tree_flaw, tree_in}
-use Rattle.agglo_model.specs.VolumeFile.{volume_bytes, volume_flaw, volume_in}
+use Rattle.agglo_model.specs.VolumeFile.{volume_flaw, volume_in}
 use Rattle.command_words.specs.Words.{BasinsSettings, SegmentSettings, MakeSettings, TrialSettings, Task, Basins, Segment, Make, Trial, Show}
 use Rattle.seg_io.specs.Desk.{DeskState}
-use Rattle.seg_io.specs.declared.port.Port.TheVariants.{Labels, Tree, Volume}
 use Rattle.agglo_program.specs.Reading.{ReadsFile}
 use Rattle.agglo_program.specs.Flaws.{leaves_refusal}
-use Rattle.agglo_program.specs.Writing.{Answer}
+use Rattle.agglo_program.specs.Writing.{Answer, labels_output, tree_output, generated_output}
 use Rattle.agglo_program.specs.Shown.{shown}
 
 -- the bytes are the file of this volume
@@ -41,22 +38,22 @@ pub record ReadsCutVolume (name chunk : List ℕ) (volume : Grid) (cutting : Chu
 -- the label file, and the note on basins
 abbrev pub basins_answer : BasinsSettings → Axes → List ℕ → Answer
 basins_answer settings axes labels = record {
-  outputs = record { port = Labels; name = settings.labels; bytes = label_file axes labels } ∷ [];
+  outputs = labels_output settings.labels axes labels ∷ [];
   note = basins_note labels;
 }
 
 -- the label file, the tree file, and the report
 abbrev pub segment_answer : SegmentSettings → Axes → List ℕ → ℕ → List Merge → List Level → Answer
 segment_answer settings axes labels basins merges levels = record {
-  outputs = record { port = Labels; name = settings.labels; bytes = label_file axes labels }
-      ∷ record { port = Tree; name = settings.tree; bytes = tree_file axes settings.threshold merges } ∷ [];
+  outputs = labels_output settings.labels axes labels
+      ∷ tree_output settings.tree (record { axes = axes; threshold = settings.threshold; merges = merges }) ∷ [];
   note = report (voxel_count axes) basins (length merges) levels;
 }
 
 -- the volume file, and the note on a volume
 abbrev pub make_answer : MakeSettings → Answer
 make_answer settings = record {
-  outputs = record { port = Volume; name = settings.volume; bytes = volume_bytes (generated_volume settings.start settings.axes) } ∷ [];
+  outputs = generated_output settings.volume settings.start settings.axes ∷ [];
   note = make_note (voxel_count settings.axes);
 }
 

@@ -82,13 +82,30 @@ RefusesNumbers cause Input old new = ⊥
 RefusesNumbers cause Output old new = ⊥
 RefusesNumbers cause (Tree fault) old new = ⊥
 
+-- ---- what a task starts from
+
+-- What a task starts from: the file of a name, with why its bytes are refused and how many of them are judged, or
+-- numbers alone, with why they are refused. Before these come the statuses of such refusals.
+pub data Start : Type 0 where
+  FromFile : (statuses : List ℕ) (refusal_of : List ℕ → Option Refusal) (judged : List ℕ → ℕ) (name : List ℕ) → Start
+  FromNumbers : (statuses : List ℕ) (cause : Option Refusal) → Start
+
+-- A flaw of a volume has the status 3, too many leaves have 4, and a flaw of a merge tree has 7.
+abbrev pub start_of : Task → Start
+start_of (Basins settings) = FromFile (3 ∷ []) basins_refusal basins_judged settings.volume
+start_of (Segment settings) =
+    FromFile (3 ∷ 4 ∷ []) (segment_refusal settings.chunk) (segment_judged settings.chunk) settings.volume
+start_of (Make settings) = FromNumbers [] None
+start_of (Trial settings) = FromNumbers (4 ∷ []) (leaves_refusal settings.axes settings.chunk)
+start_of (Show tree) = FromFile (7 ∷ []) show_refusal show_judged tree
+
+abbrev pub RefusesFrom : Start → Refusal → DeskState → DeskState → Type 0
+RefusesFrom (FromFile statuses refusal_of judged name) refusal old new = RefusesInput refusal_of judged name refusal old new
+RefusesFrom (FromNumbers statuses cause) refusal old new = RefusesNumbers cause refusal old new
+
 -- The task ended for this cause before its answer was known.
 abbrev pub RefusesStart : Task → Refusal → DeskState → DeskState → Type 0
-RefusesStart (Basins settings) refusal old new = RefusesInput basins_refusal basins_judged settings.volume refusal old new
-RefusesStart (Segment settings) refusal old new = RefusesInput (segment_refusal settings.chunk) (segment_judged settings.chunk) settings.volume refusal old new
-RefusesStart (Make settings) refusal old new = RefusesNumbers None refusal old new
-RefusesStart (Trial settings) refusal old new = RefusesNumbers (leaves_refusal settings.axes settings.chunk) refusal old new
-RefusesStart (Show tree) refusal old new = RefusesInput show_refusal show_judged tree refusal old new
+RefusesStart task refusal old new = RefusesFrom (start_of task) refusal old new
 
 -- ---- what a task deserves
 
@@ -98,39 +115,39 @@ pub record IsJudgedFile (refusal_of : List ℕ → Option Refusal) (name : List 
   pub file : file_of s name ≡ Some bytes
   pub judged : refusal_of bytes ≡ cause
 
+abbrev pub IsJudgedFrom : Start → Option Refusal → DeskState → Type 0
+IsJudgedFrom (FromFile statuses refusal_of judged name) cause s = IsJudgedFile refusal_of name cause s
+IsJudgedFrom (FromNumbers statuses told) cause s = told ≡ cause
+
 -- What the task starts from is told, by the desk or by its words alone, and this is the first cause for which it
 -- is refused, or there is none.
 abbrev pub IsJudged : Task → Option Refusal → DeskState → Type 0
-IsJudged (Basins settings) cause s = IsJudgedFile basins_refusal settings.volume cause s
-IsJudged (Segment settings) cause s = IsJudgedFile (segment_refusal settings.chunk) settings.volume cause s
-IsJudged (Make settings) cause s = None ≡ cause
-IsJudged (Trial settings) cause s = leaves_refusal settings.axes settings.chunk ≡ cause
-IsJudged (Show tree) cause s = IsJudgedFile show_refusal tree cause s
+IsJudged task cause s = IsJudgedFrom (start_of task) cause s
+
+abbrev pub HasStart : DeskState → Start → Type 0
+HasStart s (FromFile statuses refusal_of judged name) = HasFile s name
+HasStart s (FromNumbers statuses cause) = Unit {0}
 
 -- Where the desk tells its files, it has the one that the task reads, if it reads one.
 abbrev pub HasInput : DeskState → Task → Type 0
-HasInput s (Basins settings) = HasFile s settings.volume
-HasInput s (Segment settings) = HasFile s settings.volume
-HasInput s (Make settings) = Unit {0}
-HasInput s (Trial settings) = Unit {0}
-HasInput s (Show tree) = HasFile s tree
+HasInput s task = HasStart s (start_of task)
+
+abbrev pub MayHideFlawFrom : Start → ℕ → Type 0
+MayHideFlawFrom (FromFile statuses refusal_of judged name) status = (status ≡ 1) ⊎ (status ≡ 5)
+MayHideFlawFrom (FromNumbers statuses cause) status = status ≡ 1
 
 -- The status may come in the place of that of a flaw: want of memory, and where a file is read, a fault of the input.
 abbrev pub MayHideFlaw : Task → ℕ → Type 0
-MayHideFlaw (Basins settings) status = (status ≡ 1) ⊎ (status ≡ 5)
-MayHideFlaw (Segment settings) status = (status ≡ 1) ⊎ (status ≡ 5)
-MayHideFlaw (Make settings) status = status ≡ 1
-MayHideFlaw (Trial settings) status = status ≡ 1
-MayHideFlaw (Show tree) status = (status ≡ 1) ⊎ (status ≡ 5)
+MayHideFlaw task status = MayHideFlawFrom (start_of task) status
 
--- The statuses that a task may end with, whatever the desk tells: 3 where it reads a volume, 4 where it cuts one,
--- 5 where it reads a file, and 7 where that is a merge tree.
+abbrev pub statuses_from : Start → List ℕ
+statuses_from (FromFile statuses refusal_of judged name) = 0 ∷ 1 ∷ 5 ∷ 6 ∷ statuses
+statuses_from (FromNumbers statuses cause) = 0 ∷ 1 ∷ 6 ∷ statuses
+
+-- The statuses that a task may end with, whatever the desk tells: 5 only where it reads a file, and those of the
+-- refusals of what it starts from.
 abbrev pub statuses_of : Task → List ℕ
-statuses_of (Basins settings) = 0 ∷ 1 ∷ 3 ∷ 5 ∷ 6 ∷ []
-statuses_of (Segment settings) = 0 ∷ 1 ∷ 3 ∷ 4 ∷ 5 ∷ 6 ∷ []
-statuses_of (Make settings) = 0 ∷ 1 ∷ 6 ∷ []
-statuses_of (Trial settings) = 0 ∷ 1 ∷ 4 ∷ 6 ∷ []
-statuses_of (Show tree) = 0 ∷ 1 ∷ 5 ∷ 6 ∷ 7 ∷ []
+statuses_of task = statuses_from (start_of task)
 
 abbrev pub MayEndWith : Task → ℕ → Type 0
 MayEndWith task status = Contains (statuses_of task) status

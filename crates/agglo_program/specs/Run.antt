@@ -1,5 +1,5 @@
 -- What a run of the program does, by its status.
-use Rattle.std.specs.Prelude.{◌≡◌, ℕ, ◌⊎◌, List, Some, None}
+use Rattle.std.specs.Prelude.{◌≡◌, ℕ, ◌⊎◌, List, Some, None, Result, MatchResult}
 use Rattle.command_words.specs.Words.{Task, Spells, AreNoSettings, MayBeSettings}
 use Rattle.seg_io.specs.Desk.{DeskState, CanOpen, appended, FailsAfterWriting}
 use Rattle.seg_io.specs.declared.port.Port.TheVariants.{Labels, Tree as TreePort, Volume as VolumePort, Trouble}
@@ -35,6 +35,11 @@ abbrev pub RefusesTask : Task → Refusal → DeskState → DeskState → Type 0
 RefusesTask task Output old new = StopsTask task old new
 RefusesTask task refusal old new = RefusesStart task refusal old new
 
+-- how a call for a task ends: the task was done, or ended for the cause that the call tells
+abbrev pub TaskEnds : {X : Type 0} → Task → Result X Refusal → DeskState → DeskState → Type 0
+TaskEnds task result old new =
+    MatchResult result (λ _. FinishesTask task old new) (λ refusal. RefusesTask task refusal old new)
+
 -- the words spell a task, and it ended for this cause
 pub record RefusesSettings (words : List (List ℕ)) (refusal : Refusal) (old new : DeskState) : Type 0 where
   pub task : Task
@@ -68,6 +73,11 @@ pub record Finishes (words : List (List ℕ)) (old new : DeskState) : Type 0 whe
   pub task : Task
   pub spelled : Spells words task
   pub finished : FinishesTask task old new
+
+-- how a run on these words ends: their task was done, or the run ended for the cause that the call tells
+abbrev pub RunEnds : {X : Type 0} → List (List ℕ) → Result X Refusal → DeskState → DeskState → Type 0
+RunEnds words result old new =
+    MatchResult result (λ _. Finishes words old new) (λ refusal. RefusesRun words refusal old new)
 
 -- The run ended for a cause of this status, and then its line was printed.
 pub record Refuses (words : List (List ℕ)) (status : ℕ) (old new : DeskState) : Type 0 where

@@ -1,14 +1,29 @@
 -- How a run writes its answer: file after file, and then the note.
-use Rattle.std.specs.Prelude.{◌≡◌, ℕ, ◌⊎◌, List, [], ◌∷◌}
+use Rattle.std.specs.Prelude.{◌≡◌, ℕ, ◌⊎◌, List, [], ◌∷◌, Result, MatchResult}
+use Rattle.agglo_model.specs.Axes.{Axes}
+use Rattle.agglo_model.specs.Generated.{generated_volume}
+use Rattle.agglo_model.specs.LabelFile.{label_file}
+use Rattle.agglo_model.specs.TreeFile.{MergeTree, tree_bytes}
+use Rattle.agglo_model.specs.VolumeFile.{volume_bytes}
 use Rattle.seg_io.specs.Desk.{DeskState, appended, OpensOutput, FailsToOpenOutput, FailsAfterWriting}
 use Rattle.seg_io.specs.declared.port.Port.{Port}
-use Rattle.seg_io.specs.declared.port.Port.TheVariants.{Note}
+use Rattle.seg_io.specs.declared.port.Port.TheVariants.{Labels, Tree, Volume, Note}
 
 -- a file to be written: its port, the name that this is opened under, and its bytes
 pub record Output : Type 0 where
   pub port : Port
   pub name : List ℕ
   pub bytes : List ℕ
+
+-- the label file, the tree file, and the file of a generated volume
+abbrev pub labels_output : List ℕ → Axes → List ℕ → Output
+labels_output name axes labels = record { port = Labels; name = name; bytes = label_file axes labels }
+
+abbrev pub tree_output : List ℕ → MergeTree → Output
+tree_output name tree = record { port = Tree; name = name; bytes = tree_bytes tree }
+
+abbrev pub generated_output : List ℕ → ℕ → Axes → Output
+generated_output name start axes = record { port = Volume; name = name; bytes = volume_bytes (generated_volume start axes) }
 
 -- what a run has to write: files in order, and a note
 pub record Answer : Type 0 where
@@ -40,6 +55,10 @@ WritesAll answer old new = WritesFiles answer.outputs answer.note old new
 abbrev pub FailsInFile : Output → DeskState → DeskState → Type 0
 FailsInFile output old new = FailsToOpenOutput old new ⊎ CutsFile output old new
 
+-- how a call ends that writes a file: it was written whole, or the call failed in it
+abbrev pub WriteFileEnds : {X E : Type 0} → Output → Result X E → DeskState → DeskState → Type 0
+WriteFileEnds output result old new = MatchResult result (λ _. WritesFile output old new) (λ _. FailsInFile output old new)
+
 -- The first of the files failed; or it was written whole, and what comes after it failed. The last to fail is
 -- the note.
 abbrev pub FailsInFiles : List Output → List ℕ → DeskState → DeskState → Type 0
@@ -49,3 +68,8 @@ FailsInFiles (output ∷ others) note old new = FailsInFile output old new
 
 abbrev pub StopsWriting : Answer → DeskState → DeskState → Type 0
 StopsWriting answer old new = FailsInFiles answer.outputs answer.note old new
+
+-- how a call ends that writes files and then a note: all was written, or the call failed on the way
+abbrev pub WriteFilesEnds : {X E : Type 0} → List Output → List ℕ → Result X E → DeskState → DeskState → Type 0
+WriteFilesEnds outputs note result old new =
+    MatchResult result (λ _. WritesFiles outputs note old new) (λ _. FailsInFiles outputs note old new)

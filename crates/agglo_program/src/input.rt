@@ -42,7 +42,8 @@ pub fn read_cut_volume<D: Desk>(
     requires { AreSomeSizes chunk }
     ensures { MatchResult result
         (λ read. ReadsCutVolume name.now chunk read.volume read.cutting (D.state desk.old) (D.state desk.new))
-        (λ refusal. RefusesInput (segment_refusal chunk) (segment_judged chunk) name.now refusal (D.state desk.old) (D.state desk.new)) }
+        (λ refusal. RefusesInput (segment_refusal chunk) (segment_judged chunk) name.now refusal
+        (D.state desk.old) (D.state desk.new)) }
 {
     desk.open_in(name).map_err(|_| Refusal::Input)?;
     let head = read_head(desk)?;

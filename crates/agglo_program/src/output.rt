@@ -1,11 +1,7 @@
-ghost use Rattle.std.specs.Prelude.{◌≡◌, ◌∷◌, [], MatchResult, length};
-ghost use Rattle.agglo_model.specs.Generated.{generated_volume};
-ghost use Rattle.agglo_model.specs.LabelFile.{label_file};
-ghost use Rattle.agglo_model.specs.TreeFile.{tree_bytes};
-ghost use Rattle.agglo_model.specs.VolumeFile.{volume_bytes};
-ghost use Rattle.seg_io.specs.Desk.{CanOpen, FailsToOpenOutput};
+ghost use Rattle.std.specs.Prelude.{◌∷◌, []};
+ghost use Rattle.seg_io.specs.Desk.{CanOpen};
 ghost use Rattle.seg_io.specs.declared.port.Port.TheVariants.{Labels as LabelsPort, Tree as TreePort, Volume as VolumePort};
-ghost use Rattle.agglo_program.specs.Writing.{WritesFile, CutsFile, WritesFiles, FailsInFiles, FailsInFile};
+ghost use Rattle.agglo_program.specs.Writing.{labels_output, tree_output, generated_output, WriteFileEnds, WriteFilesEnds};
 
 use merge_tree::{Tree, put_labels, put_tree};
 use seg_base::{Dims, Labels};
@@ -15,9 +11,8 @@ use volume_file::write_generated;
 /// Opens the port Labels under this name and writes the label file on it.
 fn write_labels<D: Desk>(desk: &mut D, name: &str, labels: &Labels) -> Result<(), Failed>
     requires { CanOpen LabelsPort (D.state desk.old) }
-    ensures { MatchResult result
-        (λ _. WritesFile (record { port = LabelsPort; name = name.now; bytes = label_file labels.now.axes labels.now.labels }) (D.state desk.old) (D.state desk.new))
-        (λ _. FailsInFile (record { port = LabelsPort; name = name.now; bytes = label_file labels.now.axes labels.now.labels }) (D.state desk.old) (D.state desk.new)) }
+    ensures { let output = labels_output name.now labels.now.axes labels.now.labels in
+        WriteFileEnds output result (D.state desk.old) (D.state desk.new) }
 {
     desk.open_out(Port::Labels, name)?;
     put_labels(desk, labels)
@@ -26,9 +21,7 @@ fn write_labels<D: Desk>(desk: &mut D, name: &str, labels: &Labels) -> Result<()
 /// Opens the port Tree under this name and writes the tree file on it.
 fn write_tree<D: Desk>(desk: &mut D, name: &str, tree: &Tree) -> Result<(), Failed>
     requires { CanOpen TreePort (D.state desk.old) }
-    ensures { MatchResult result
-        (λ _. WritesFile (record { port = TreePort; name = name.now; bytes = tree_bytes tree.now }) (D.state desk.old) (D.state desk.new))
-        (λ _. FailsInFile (record { port = TreePort; name = name.now; bytes = tree_bytes tree.now }) (D.state desk.old) (D.state desk.new)) }
+    ensures { WriteFileEnds (tree_output name.now tree.now) result (D.state desk.old) (D.state desk.new) }
 {
     desk.open_out(Port::Tree, name)?;
     put_tree(desk, tree)
@@ -42,9 +35,7 @@ fn write_volume_file<D: Desk>(
     dims: &Dims,
 ) -> Result<(), Failed>
     requires { CanOpen VolumePort (D.state desk.old) }
-    ensures { MatchResult result
-        (λ _. WritesFile (record { port = VolumePort; name = name.now; bytes = volume_bytes (generated_volume start dims.now) }) (D.state desk.old) (D.state desk.new))
-        (λ _. FailsInFile (record { port = VolumePort; name = name.now; bytes = volume_bytes (generated_volume start dims.now) }) (D.state desk.old) (D.state desk.new)) }
+    ensures { WriteFileEnds (generated_output name.now start dims.now) result (D.state desk.old) (D.state desk.new) }
 {
     desk.open_out(Port::Volume, name)?;
     write_generated(desk, Port::Volume, start, dims)
@@ -58,11 +49,8 @@ pub fn write_basins<D: Desk>(
     note: &str,
 ) -> Result<(), Failed>
     requires { CanOpen LabelsPort (D.state desk.old) }
-    ensures { MatchResult result
-        (λ _. WritesFiles (record { port = LabelsPort; name = name.now; bytes = label_file labels.now.axes labels.now.labels } ∷ [])
-        note.now (D.state desk.old) (D.state desk.new))
-        (λ _. FailsInFiles (record { port = LabelsPort; name = name.now; bytes = label_file labels.now.axes labels.now.labels } ∷ [])
-        note.now (D.state desk.old) (D.state desk.new)) }
+    ensures { let outputs = labels_output name.now labels.now.axes labels.now.labels ∷ [] in
+        WriteFilesEnds outputs note.now result (D.state desk.old) (D.state desk.new) }
 {
     write_labels(desk, name, labels)?;
     put_all(desk, Port::Note, note.as_bytes())
@@ -85,13 +73,9 @@ pub fn write_segmentation<D: Desk>(
 ) -> Result<(), Failed>
     requires labels { CanOpen LabelsPort (D.state desk.old) }
     requires tree { CanOpen TreePort (D.state desk.old) }
-    ensures { MatchResult result
-        (λ _. WritesFiles (record { port = LabelsPort; name = names.entry.labels.now; bytes = label_file labels.now.axes labels.now.labels }
-        ∷ record { port = TreePort; name = names.entry.tree.now; bytes = tree_bytes tree.now } ∷ [])
-        note.now (D.state desk.old) (D.state desk.new))
-        (λ _. FailsInFiles (record { port = LabelsPort; name = names.entry.labels.now; bytes = label_file labels.now.axes labels.now.labels }
-        ∷ record { port = TreePort; name = names.entry.tree.now; bytes = tree_bytes tree.now } ∷ [])
-        note.now (D.state desk.old) (D.state desk.new)) }
+    ensures { let outputs = labels_output names.entry.labels.now labels.now.axes labels.now.labels
+        ∷ tree_output names.entry.tree.now tree.now ∷ [] in
+        WriteFilesEnds outputs note.now result (D.state desk.old) (D.state desk.new) }
 {
     write_labels(desk, names.labels, labels)?;
     write_tree(desk, names.tree, tree)?;
@@ -107,11 +91,8 @@ pub fn write_made<D: Desk>(
     note: &str,
 ) -> Result<(), Failed>
     requires { CanOpen VolumePort (D.state desk.old) }
-    ensures { MatchResult result
-        (λ _. WritesFiles (record { port = VolumePort; name = name.now; bytes = volume_bytes (generated_volume start dims.now) } ∷ [])
-        note.now (D.state desk.old) (D.state desk.new))
-        (λ _. FailsInFiles (record { port = VolumePort; name = name.now; bytes = volume_bytes (generated_volume start dims.now) } ∷ [])
-        note.now (D.state desk.old) (D.state desk.new)) }
+    ensures { let outputs = generated_output name.now start dims.now ∷ [] in
+        WriteFilesEnds outputs note.now result (D.state desk.old) (D.state desk.new) }
 {
     write_volume_file(desk, name, start, dims)?;
     put_all(desk, Port::Note, note.as_bytes())

@@ -29,7 +29,8 @@ fn add_dims(note: &mut String, dims: &Dims) -> Result<(), Memory>
 }
 
 fn add_threshold(note: &mut String, threshold: &Threshold, merges: usize) -> Result<(), Memory>
-    ensures { IfOk result (λ _. string_bytes note.new ≡ string_bytes note.old ++ threshold_lines threshold.now merges) }
+    ensures { IfOk result
+        (λ _. string_bytes note.new ≡ string_bytes note.old ++ threshold_lines threshold.now merges) }
 {
     let (p, q) = (threshold.p(), threshold.q());
     write!(note, "threshold {p}/{q}\nrecords {merges}\n")?;

@@ -1,11 +1,11 @@
-ghost use Rattle.std.specs.Prelude.{◌≡◌, ◌≢◌, ℕ, ◌⊎◌, List, IfSome, MatchResult};
+ghost use Rattle.std.specs.Prelude.{◌≡◌, ◌≢◌, ℕ, ◌⊎◌, List, IfSome};
 ghost use Rattle.agglo_model.specs.Count.{Rose};
 ghost use Rattle.command_words.specs.Jobs.{task_of};
 ghost use Rattle.command_words.specs.Texts.{texts};
 ghost use Rattle.command_words.specs.Words.{Task, Basins, Segment, Make, Trial, Show, SegmentSettings, MakeSettings, TrialSettings, Spells, AreNoSettings, MayBeSettings, AreSomeSizes};
 ghost use Rattle.refusals.specs.Refusal.{status_of};
 ghost use Rattle.agglo_program.specs.Flaws.{HasInput, MayHideFlaw, MayEndWith};
-ghost use Rattle.agglo_program.specs.Run.{HasNoOutput, FinishesTask, RefusesTask, RefusesRun, Told, Finishes, Refuses, NamesAFlawedInput, NamesAGoodInput, WritesNothing, IsStatus};
+ghost use Rattle.agglo_program.specs.Run.{HasNoOutput, TaskEnds, RunEnds, Told, Finishes, Refuses, NamesAFlawedInput, NamesAGoodInput, WritesNothing, IsStatus};
 ghost use Rattle.agglo_program.specs.Headline.{IsAgglomerated, IsMade, IsTried};
 
 use crate::input::{cut, read_cut_volume, read_tree_file, read_volume_file};
@@ -57,29 +57,33 @@ pub fn agglo<R: Threads + Sync, D: Desk, G: Gate>(
     // Every refusal has its cause, and its line was printed. Want of memory is free, but not for words that are
     // refused at once: there is none, or the first is no command, or another is bare.
     ensures refused { result ≢ 0 → Refuses (texts words.now) result (D.state desk.old) (D.state desk.new) }
-    ensures kinds { (task : Task) → Spells (texts words.now) task → MayEndWith task result }
-    ensures no_settings { result ≡ 2 → AreNoSettings (texts words.now) }
-    ensures words { AreNoSettings (texts words.now) → (result ≡ 2) ⊎ ((result ≡ 1) × MayBeSettings (texts words.now)) }
-    ensures at_once { ¬ (MayBeSettings (texts words.now)) → result ≡ 2 }
-    ensures input { result ≡ 5 → Rose (D.state desk.old).input_faults (D.state desk.new).input_faults }
-    ensures output { result ≡ 6 → Rose (D.state desk.old).output_faults (D.state desk.new).output_faults }
+    ensures statuses_of_command { (task : Task) → Spells (texts words.now) task → MayEndWith task result }
+    ensures refused_words_are_no_settings { result ≡ 2 → AreNoSettings (texts words.now) }
+    ensures no_settings_are_refused { AreNoSettings (texts words.now)
+        → (result ≡ 2) ⊎ ((result ≡ 1) × MayBeSettings (texts words.now)) }
+    ensures words_are_refused_at_once { ¬ (MayBeSettings (texts words.now)) → result ≡ 2 }
+    ensures input_fault_was_counted { result ≡ 5
+        → Rose (D.state desk.old).input_faults (D.state desk.new).input_faults }
+    ensures output_fault_was_counted { result ≡ 6
+        → Rose (D.state desk.old).output_faults (D.state desk.new).output_faults }
 
     // A flaw that is told, of a file by the desk and of leaves by the words, is found, but for want of memory and, in
     // a file, faults of the input.
-    ensures exactly { (status : ℕ) → (named : NamesAFlawedInput (texts words.now) status (D.state desk.old))
+    ensures flaws_are_found { (status : ℕ) → (named : NamesAFlawedInput (texts words.now) status (D.state desk.old))
         → (result ≡ status) ⊎ MayHideFlaw named.task result }
 
     // With settings, an input that has no flaw, and no fault, only want of memory can come.
-    ensures complete { NamesAGoodInput (texts words.now) (D.state desk.old)
+    ensures good_input_is_done { NamesAGoodInput (texts words.now) (D.state desk.old)
         → ¬ (Rose (D.state desk.old).input_faults (D.state desk.new).input_faults)
         → ¬ (Rose (D.state desk.old).output_faults (D.state desk.new).output_faults)
         → (result ≡ 0) ⊎ (result ≡ 1) }
 
     // No port is opened or written before the answer is known, but for the line of a refusal.
-    ensures quiet { result ≢ 0 → result ≢ 6 → WritesNothing (D.state desk.old) (D.state desk.new) }
+    ensures nothing_is_written_early { result ≢ 0 → result ≢ 6 → WritesNothing (D.state desk.old) (D.state desk.new) }
 
     // A miss comes only where the words are settings, and no file has the name of their input.
-    ensures misses { ((task : Task) → Spells (texts words.now) task → HasInput (D.state desk.old) task)
+    ensures only_the_input_is_missed { ((task : Task) → Spells (texts words.now) task
+        → HasInput (D.state desk.old) task)
         → IfSome (D.state desk.old).files (λ _. (D.state desk.new).misses ≡ (D.state desk.old).misses) }
 {
     one_task();
@@ -107,9 +111,7 @@ fn run<R: Threads + Sync, D: Desk, G: Gate>(
     gate: &G,
 ) -> Result<(), Refusal>
     requires { HasNoOutput (D.state desk.old) }
-    ensures { MatchResult result
-        (λ _. Finishes (texts words.now) (D.state desk.old) (D.state desk.new))
-        (λ refusal. RefusesRun (texts words.now) refusal (D.state desk.old) (D.state desk.new)) }
+    ensures { RunEnds (texts words.now) result (D.state desk.old) (D.state desk.new) }
 {
     sizes_are_some();
     match read_words(alloc, words) {
@@ -127,7 +129,10 @@ struct Plan {
 
 impl Plan {
     fn new(chunk: [u32; 3], low: u8, threshold: Threshold, workers: u32) -> Plan
-        ensures { result ≡ record { chunk = chunk; settings = record { low = low; threshold = threshold; workers = workers } } }
+        ensures { result ≡ record {
+          chunk = chunk;
+          settings = record { low = low; threshold = threshold; workers = workers };
+        } }
     {
         Plan {
             chunk,
@@ -151,9 +156,7 @@ fn run_job<R: Threads + Sync, D: Desk, G: Gate>(
     requires fresh { HasNoOutput (D.state desk.old) }
     requires sizes { (settings : SegmentSettings) → task_of job.now ≡ Segment settings → AreSomeSizes settings.chunk }
     requires trial_sizes { (settings : TrialSettings) → task_of job.now ≡ Trial settings → AreSomeSizes settings.chunk }
-    ensures { MatchResult result
-        (λ _. FinishesTask (task_of job.now) (D.state desk.old) (D.state desk.new))
-        (λ refusal. RefusesTask (task_of job.now) refusal (D.state desk.old) (D.state desk.new)) }
+    ensures { TaskEnds (task_of job.now) result (D.state desk.old) (D.state desk.new) }
 {
     match job {
         Job::Basins {
@@ -207,9 +210,8 @@ fn run_basins<R: Threads + Sync, D: Desk>(
     low: u8,
 ) -> Result<(), Refusal>
     requires { HasNoOutput (D.state desk.old) }
-    ensures { MatchResult result
-        (λ _. FinishesTask (Basins (record { volume = volume.now; labels = labels.now; low = low })) (D.state desk.old) (D.state desk.new))
-        (λ refusal. RefusesTask (Basins (record { volume = volume.now; labels = labels.now; low = low })) refusal (D.state desk.old) (D.state desk.new)) }
+    ensures { let task = Basins (record { volume = volume.now; labels = labels.now; low = low }) in
+        TaskEnds task result (D.state desk.old) (D.state desk.new) }
 {
     let volume = read_volume_file(alloc, desk, volume)?;
     let basins = basins_by_threads(rt, alloc, &volume, low)?;
@@ -238,9 +240,7 @@ fn run_segment<R: Threads + Sync, D: Desk, G: Gate>(
       chunk = plan.now.chunk;
       workers = plan.now.settings.workers;
     }) in
-        MatchResult result
-        (λ _. FinishesTask task (D.state desk.old) (D.state desk.new))
-        (λ refusal. RefusesTask task refusal (D.state desk.old) (D.state desk.new)) }
+        TaskEnds task result (D.state desk.old) (D.state desk.new) }
 {
     bounded_labels();
     greedy_merges_are_lawful();
@@ -262,9 +262,7 @@ fn run_make<D: Desk>(
 ) -> Result<(), Refusal>
     requires { HasNoOutput (D.state desk.old) }
     ensures { let task = Make (record { volume = name.now; start = start; axes = dims.now }) in
-        MatchResult result
-        (λ _. FinishesTask task (D.state desk.old) (D.state desk.new))
-        (λ refusal. RefusesTask task refusal (D.state desk.old) (D.state desk.new)) }
+        TaskEnds task result (D.state desk.old) (D.state desk.new) }
 {
     let note = make_note(alloc, dims)?;
     write_made(desk, name, start, dims, note.as_str()).map_err(|_| Refusal::Output)
@@ -289,9 +287,7 @@ fn run_trial<R: Threads + Sync, D: Desk, G: Gate>(
       chunk = plan.now.chunk;
       workers = plan.now.settings.workers;
     }) in
-        MatchResult result
-        (λ _. FinishesTask task (D.state desk.old) (D.state desk.new))
-        (λ refusal. RefusesTask task refusal (D.state desk.old) (D.state desk.new)) }
+        TaskEnds task result (D.state desk.old) (D.state desk.new) }
 {
     let cutting = cut(dims, plan.chunk)?;
     let volume = generate(alloc, start, dims)?;
@@ -302,9 +298,7 @@ fn run_trial<R: Threads + Sync, D: Desk, G: Gate>(
 
 /// Reads the merge tree, and shows it.
 fn run_show<D: Desk>(alloc: Global, desk: &mut D, tree: &str) -> Result<(), Refusal>
-    ensures { MatchResult result
-        (λ _. FinishesTask (Show tree.now) (D.state desk.old) (D.state desk.new))
-        (λ refusal. RefusesTask (Show tree.now) refusal (D.state desk.old) (D.state desk.new)) }
+    ensures { TaskEnds (Show tree.now) result (D.state desk.old) (D.state desk.new) }
 {
     let tree = read_tree_file(alloc, desk, tree)?;
     let note = tree_note(alloc, &tree)?;
