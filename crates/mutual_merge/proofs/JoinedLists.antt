@@ -23,8 +23,8 @@ lists_more {A = A} lists merges list (there, all, joined) = (
   there ++ list ∷ [],
   ap (λ l. l ++ Ok list ∷ []) all ∙ sym (map-append Ok there (list ∷ [])),
   ap (λ m. m ++ list.items) joined
-  ∙ ap (λ m. flat_map (λ (l : Vec Merge A). l.items) there ++ m) (sym (append-nil list.items))
-  ∙ sym (flat_map-append (λ (l : Vec Merge A). l.items) there (list ∷ [])),
+      ∙ ap (λ m. flat_map (λ (l : Vec Merge A). l.items) there ++ m) (sym (append-nil list.items))
+      ∙ sym (flat_map-append (λ (l : Vec Merge A). l.items) there (list ∷ [])),
 )
 
 module _ (t : Threshold) (regions : List Region) (links : List Link) (groups : List ℕ) where
@@ -53,7 +53,7 @@ module _ (t : Threshold) (regions : List Region) (links : List Link) (groups : L
   parts_of {A = A} first (list ∷ lists) each =
       let here = subst (λ k. SettlesGroup t regions links groups k list.items) (plus_zero first) (each 0 list (omega arith)) in
       let rest = parts_of {A = A} (suc first) lists (λ i d lt.
-          subst (λ k. SettlesGroup t regions links groups k (get_or lists i d).items) (plus_suc first i) (each (suc i) d (omega arith))) in
+      subst (λ k. SettlesGroup t regions links groups k (get_or lists i d).items) (plus_suc first i) (each (suc i) d (omega arith))) in
       (here.0 ∷ rest.0, ap suc rest.1, one_more first here.0 rest.0 here.1 rest.2, (here.2, rest.3))
     where
       plus_zero : (n : ℕ) → n + 0 ≡ n
