@@ -1,5 +1,6 @@
 mod cases;
 mod graphs;
+mod hubs;
 mod lists;
 mod plain_basins;
 mod plain_grid;
@@ -14,7 +15,7 @@ use cases::{CASES, Case, make_case};
 use chunk_tree::Cutting;
 use plain_basins::{basin_labels, name_count};
 use plain_grid::edges_of;
-use plain_merging::{Pair, agglomerate};
+use plain_merging::{Pair, agglomerate, contact_edges};
 use segment_run::{Open, segment};
 use std::alloc::{AllocError, Global};
 use std::process::Abort;
@@ -48,7 +49,8 @@ fn plainly(alloc: Global, case: &Case) -> Result<Told, AllocError> {
     let edges = edges_of(alloc, &case.vol)?;
     let mut labels = basin_labels(alloc, &edges, voxels, case.settings.low)?;
     let basins = name_count(&labels, voxels);
-    let merges = agglomerate(alloc, &edges, &mut labels, case.settings.threshold)?;
+    let contact_edges = contact_edges(alloc, &edges, &labels)?;
+    let merges = agglomerate(alloc, &contact_edges, &mut labels, case.settings.threshold)?;
     Ok(Told {
         basins,
         labels,
@@ -86,27 +88,32 @@ fn by_leaves<R: Threads + Sync>(
 }
 
 /// Stops the test unless both segmentations are the same.
-fn expect_same<R: Abort>(rt: &R, told: &Told, plain: &Told, seed: u32, chunk: &[u32; 3]) {
-    assert_eq!(rt; told.basins, plain.basins, "seed {seed} cut by {chunk:?}");
+fn expect_same<R: Abort>(rt: &R, told: &Told, plain: &Told, case: &str, chunk: &[u32; 3]) {
+    assert_eq!(rt; told.basins, plain.basins, "{case} cut by {chunk:?}");
     assert_eq!(rt;
         told.merges.as_slice(),
         plain.merges.as_slice(),
-        "seed {seed} cut by {chunk:?}"
+        "{case} cut by {chunk:?}"
     );
     assert_eq!(rt;
         told.labels.as_slice(),
         plain.labels.as_slice(),
-        "seed {seed} cut by {chunk:?}"
+        "{case} cut by {chunk:?}"
     );
 }
 
-/// Compares the segmentations of a case by each cutting with the plain one.
-fn compare<R: Abort + Threads + Sync>(rt: &R, alloc: Global, seed: u32) -> Result<(), Fail> {
-    let case = make_case(alloc, seed)?;
-    let plain = plainly(alloc, &case)?;
-    for chunk in CHUNKS {
-        let told = by_leaves(rt, alloc, &case, *chunk)?;
-        expect_same(rt, &told, &plain, seed, chunk);
+/// Compares the segmentations of a case by leaves of each of these sizes with the plain one.
+fn compare<R: Abort + Threads + Sync>(
+    rt: &R,
+    alloc: Global,
+    case: &Case,
+    chunks: &[[u32; 3]],
+    shows: &str,
+) -> Result<(), Fail> {
+    let plain = plainly(alloc, case)?;
+    for chunk in chunks {
+        let told = by_leaves(rt, alloc, case, *chunk)?;
+        expect_same(rt, &told, &plain, shows, chunk);
     }
     Ok(())
 }
@@ -114,7 +121,9 @@ fn compare<R: Abort + Threads + Sync>(rt: &R, alloc: Global, seed: u32) -> Resul
 #[test]
 fn segmentations_are_as_plainly_computed(rt: HostRuntime) -> Result<(), Fail> {
     for seed in 0..CASES {
-        compare(&rt, rt.alloc(), seed)?;
+        let case = make_case(rt.alloc(), seed)?;
+        let shows = format!(in rt.alloc(); "seed {seed}")?;
+        compare(&rt, rt.alloc(), &case, CHUNKS, &shows)?;
     }
     Ok(())
 }

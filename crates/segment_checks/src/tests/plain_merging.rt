@@ -28,6 +28,21 @@ impl Pair {
     }
 }
 
+/// The edges between two names. No other edge comes to lie between two names when names are merged.
+pub(crate) fn contact_edges(
+    alloc: Global,
+    edges: &[Edge],
+    labels: &[u32],
+) -> Result<Vec<Edge>, AllocError> {
+    let mut contact_edges = Vec::new(alloc);
+    for edge in edges {
+        if names_at(labels, edge).is_some() {
+            contact_edges.push(*edge)?;
+        }
+    }
+    Ok(contact_edges)
+}
+
 /// Merges the first pair as long as its mean reaches the threshold: the merges in order, while the labels are
 /// renamed. Each step sums all contacts anew, so the time is quadratic in the edges for each merge.
 pub(crate) fn agglomerate(
